@@ -1,0 +1,23 @@
+-- The amplitude that a table shows at a key.
+use mathlib.Core.List.{List}
+use Rattle.std.specs.Prelude.{Option, Some, None}
+use Rattle.airy_math.specs.Rational.{ℚ}
+use Rattle.airy_math.specs.RationalLaws.{0ℚ}
+use Rattle.airy_math.specs.Keys.{Key}
+use Rattle.amp_plan.specs.Plans.{Planning}
+use Rattle.amp_plan.specs.Places.{place_in}
+use Rattle.amp_plan.specs.declared.place.Place.{Place}
+use Rattle.amp_plan.specs.declared.place.Place.TheVariants.{At, Zero, Beyond, BadIndex}
+use Rattle.amp_terms.specs.declared.Outcome.{Outcome}
+use Rattle.amp_terms.specs.Tables.{value_at}
+
+-- the Value of a rank, where it has one, and 0 where the shape does not cover the key
+unfoldable pub shown_at : List (Option Outcome) → Place → Option ℚ
+shown_at table (At r) = value_at table r
+shown_at table Zero = Some 0ℚ
+shown_at table Beyond = None
+shown_at table BadIndex = None
+
+-- what a table of the plan shows at the key
+unfoldable pub shown_amplitude : Planning → List (Option Outcome) → Key → Option ℚ
+shown_amplitude p table key = shown_at table (place_in p key)
