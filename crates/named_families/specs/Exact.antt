@@ -1,0 +1,54 @@
+-- The form that wk and bgw share: their law is exact, and its number for each place, the shift, is 1 for wk and 0 for bgw.
+use Prim.Native.Nat.{ℕ, ◌+◌, ◌*◌, ◌<◌, min}
+use mathlib.Core.Path.{◌≡◌}
+use mathlib.Core.Bool.{Bool, false, ◌&&◌, ◌||◌}
+use mathlib.Core.List.{[]}
+use lib.Dec.{eqb, ltb}
+use lib.IntN.{pos}
+use Rattle.airy_math.specs.Rational.{ℚ, whole, ◌/ℚ◌}
+use Rattle.airy_math.specs.RationalLaws.{1ℚ}
+use Rattle.airy_math.specs.Sums.{when}
+use Rattle.airy_math.specs.Named.{wk_shape}
+use Rattle.airy_math.specs.declared.Shape.{Shape}
+use Rattle.airy_math.specs.declared.Shape.TheVariants.{Exact}
+use Rattle.sparse_tensor.specs.Entries.{Entries, looked_up}
+
+-- the shape: the sum of a key's indices is (2 shift + 1) (g - 1) + shift n
+unfoldable pub exact_shape : ℕ → Shape
+exact_shape shift = Exact record { per_g = pos (2 * shift + 1); per_n = pos shift }
+
+-- the entries of B, C and D: each is 0 but where its indices keep the law
+unfoldable pub exact_b : ℕ → ℕ → ℕ → ℕ → ℚ
+exact_b shift i j k = when (eqb (i + j) (k + shift)) (whole (2 * j + 1))
+
+unfoldable pub exact_c : ℕ → ℕ → ℕ → ℕ → ℚ
+exact_c shift i j k = when (eqb i (j + k + shift + 1)) 1ℚ
+
+unfoldable pub exact_d : ℕ → ℕ → ℚ
+exact_d shift i = when (eqb i shift) (pos 1 /ℚ 8)
+
+-- Whether a walk through all j at i = 0, then all j at i = 1, and so on, which has come to n and m, has passed i and j.
+unfoldable pub is_done : ℕ → ℕ → ℕ → ℕ → Bool
+is_done n m i j = ltb i n || (eqb i n && ltb j m)
+
+-- B is filled as far as the walk has come, and 0 elsewhere
+unfoldable pub FillsB : ℕ → ℕ → ℕ → Entries → Type 0
+FillsB shift n m t = (i j k : ℕ) → i < t.dim → j < t.dim → k < t.dim → (looked_up t).B i j k ≡ when (is_done n m i j) (exact_b shift i j k)
+
+-- the same for C, by the lesser of its last two indices
+unfoldable pub FillsC : ℕ → ℕ → ℕ → Entries → Type 0
+FillsC shift n m t = (i j k : ℕ) → i < t.dim → j < t.dim → k < t.dim → (looked_up t).C i j k ≡ when (is_done n m i (min j k)) (exact_c shift i j k)
+
+-- D is filled
+unfoldable pub FillsD : ℕ → Entries → Type 0
+FillsD shift t = (i : ℕ) → i < t.dim → (looked_up t).D i ≡ exact_d shift i
+
+-- Tensors of the shape of wk without a letter, with the entry of A alone, which is 1 at the indices 0, 0 and 0.
+pub record IsBegun (dim : ℕ) (t : Entries) : Type 0 where
+  pub dim_is : t.dim ≡ dim
+  pub shape_is : t.shape ≡ wk_shape
+  pub letter_is : t.letter ≡ false
+  pub no_b : t.b ≡ []
+  pub no_c : t.c ≡ []
+  pub no_d : t.d ≡ []
+  pub a_is : (i j k : ℕ) → (looked_up t).A i j k ≡ when (eqb i 0 && eqb j 0 && eqb k 0) 1ℚ

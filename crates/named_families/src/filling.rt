@@ -1,0 +1,125 @@
+ghost use Rattle.std.specs.Prelude.{◌≡◌, ◌≤◌, ◌<◌, ◌+◌, OnOk, IfErr, pos, []};
+ghost use Rattle.airy_math.specs.Rational.{◌/ℚ◌};
+ghost use Rattle.named_families.specs.Exact.{exact_shape, FillsB, FillsC, FillsD};
+
+use frac128::Frac;
+use sparse_tensor::{NoMemory, PutErr, Tensors};
+use std::alloc::AllocError;
+
+/// The answer of a put that only want of memory can refuse.
+pub(crate) fn unless_wanting(answer: Result<(), PutErr>) -> Result<(), NoMemory>
+    requires { IfErr answer (λ e. e ≡ PutErr.NoMemory) }
+    ensures { OnOk result (answer ≡ Ok tt) }
+{
+    match answer {
+        Ok(()) => Ok(()),
+        Err(_) => Err(AllocError),
+    }
+}
+
+/// Puts `B^i_{jk}` for one i and j: `2j + 1` where `i + j = k + shift`.
+fn fill_place_b(tensors: &mut Tensors, shift: u8, i: u8, j: u8) -> Result<(), NoMemory>
+    requires first { i < tensors.old.dim }
+    requires second { j < tensors.old.dim }
+    requires shift { shift ≤ 1 }
+    requires shape { tensors.old.shape ≡ exact_shape shift }
+    requires before { FillsB shift i j tensors.old }
+    ensures filled { OnOk result (FillsB shift i (j + 1) tensors.new) }
+    ensures others { OnOk result (tensors.new ≡ record tensors.old { b = tensors.new.b }) }
+{
+    tensors.are_sound();
+    let sum = i + j;
+    if sum < shift || sum - shift >= tensors.dim() {
+        return Ok(());
+    }
+    let value = Frac::whole(2 * j as i64 + 1);
+    unless_wanting(tensors.put_b(i, j, sum - shift, value))
+}
+
+/// Puts all entries of B at one i.
+fn fill_row_b(tensors: &mut Tensors, shift: u8, i: u8) -> Result<(), NoMemory>
+    requires below { i < tensors.old.dim }
+    requires shift { shift ≤ 1 }
+    requires shape { tensors.old.shape ≡ exact_shape shift }
+    requires before { FillsB shift i 0 tensors.old }
+    ensures filled { OnOk result (FillsB shift (i + 1) 0 tensors.new) }
+    ensures others { OnOk result (tensors.new ≡ record tensors.old { b = tensors.new.b }) }
+{
+    for j in 0..tensors.dim() {
+        fill_place_b(tensors, shift, i, j)?;
+    }
+    Ok(())
+}
+
+/// Puts all entries of B: `2j + 1` where `i + j = k + shift`.
+pub(crate) fn fill_b(tensors: &mut Tensors, shift: u8) -> Result<(), NoMemory>
+    requires shift { shift ≤ 1 }
+    requires shape { tensors.old.shape ≡ exact_shape shift }
+    requires before { FillsB shift 0 0 tensors.old }
+    ensures filled { OnOk result (FillsB shift tensors.new.dim 0 tensors.new) }
+    ensures others { OnOk result (tensors.new ≡ record tensors.old { b = tensors.new.b }) }
+{
+    for i in 0..tensors.dim() {
+        fill_row_b(tensors, shift, i)?;
+    }
+    Ok(())
+}
+
+/// Puts all entries of C at one i: 1 where `i = j + k + shift + 1`.
+fn fill_row_c(tensors: &mut Tensors, shift: u8, i: u8) -> Result<(), NoMemory>
+    requires below { i < tensors.old.dim }
+    requires shift { shift ≤ 1 }
+    requires shape { tensors.old.shape ≡ exact_shape shift }
+    requires before { FillsC shift i 0 tensors.old }
+    ensures filled { OnOk result (FillsC shift (i + 1) 0 tensors.new) }
+    ensures others { OnOk result (tensors.new ≡ record tensors.old { c = tensors.new.c }) }
+{
+    if i <= shift {
+        return Ok(());
+    }
+    let sum = i - shift - 1;
+    for j in 0..sum / 2 + 1 {
+        tensors.are_sound();
+        unless_wanting(tensors.put_c(i, j, sum - j, Frac::whole(1)))?;
+    }
+    Ok(())
+}
+
+/// Puts all entries of C: 1 where `i = j + k + shift + 1`.
+pub(crate) fn fill_c(tensors: &mut Tensors, shift: u8) -> Result<(), NoMemory>
+    requires shift { shift ≤ 1 }
+    requires shape { tensors.old.shape ≡ exact_shape shift }
+    requires before { FillsC shift 0 0 tensors.old }
+    ensures filled { OnOk result (FillsC shift tensors.new.dim 0 tensors.new) }
+    ensures others { OnOk result (tensors.new ≡ record tensors.old { c = tensors.new.c }) }
+{
+    for i in 0..tensors.dim() {
+        fill_row_c(tensors, shift, i)?;
+    }
+    Ok(())
+}
+
+/// One eighth.
+fn eighth() -> Frac
+    ensures { result ≡ pos 1 /ℚ 8 }
+{
+    match Frac::new(1, 8) {
+        Ok(value) => value,
+        Err(_) => unreachable!(),
+    }
+}
+
+/// Puts the entry of D: 1/8 at the shift.
+pub(crate) fn fill_d(tensors: &mut Tensors, shift: u8) -> Result<(), NoMemory>
+    requires shift { shift ≤ 1 }
+    requires shape { tensors.old.shape ≡ exact_shape shift }
+    requires before { tensors.old.d ≡ [] }
+    ensures filled { OnOk result (FillsD shift tensors.new) }
+    ensures others { OnOk result (tensors.new ≡ record tensors.old { d = tensors.new.d }) }
+{
+    if shift >= tensors.dim() {
+        return Ok(());
+    }
+    tensors.are_sound();
+    unless_wanting(tensors.put_d(shift, eighth()))
+}

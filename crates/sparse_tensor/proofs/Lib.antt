@@ -1,0 +1,11 @@
+pub mod RowLemmas
+pub mod PairLemmas
+pub mod EntryLemmas
+pub mod JoinLemmas
+pub mod GridLemmas
+pub mod PairsLemmas
+pub mod GradeLemmas
+pub mod SoundLaw
+pub mod RowLaw
+pub mod PutLaw
+pub mod PutFacts

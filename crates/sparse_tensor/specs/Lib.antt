@@ -1,0 +1,5 @@
+pub mod Entries
+pub mod Grades
+pub mod Puts
+pub mod Rows
+pub mod Parts

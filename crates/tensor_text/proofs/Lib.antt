@@ -1,0 +1,15 @@
+pub mod ValueLemmas
+pub mod PlaceLemmas
+pub mod LineLemmas
+pub mod CountLemmas
+pub mod GrammarLemmas
+pub mod PutLemmas
+pub mod ReadLemmas
+pub mod WriteLemmas
+pub mod ZeroLemmas
+pub mod PieceLaw
+pub mod CanonicalLaw
+pub mod BackValues
+pub mod BackLines
+pub mod BackEntries
+pub mod BackLaw

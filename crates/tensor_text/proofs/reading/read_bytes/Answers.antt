@@ -1,0 +1,15 @@
+use Rattle.std.proofs.Common.{arith, ◌≡◌, ◌++◌, take, length, length-append}
+use Rattle.std.proofs.lemmas.List.{length-take-le}
+use Rattle.tensor_text.proofs.ReadLemmas.{Consumes-more}
+use Rattle.tensor_text.proofs.reading.read_bytes.Goals as goal
+
+pub returns-then-is_err-clause-read : goal.returns-then-is_err-clause-read
+returns-then-is_err-clause-read g c =
+    let read = take c.in-Ok.count c.read.new.into in
+    let room : length (take c.min-most.result c.loop-room.room) ≡ c.min-most.result = length-take-le c.min-most.result c.loop-room.room (omega arith) in
+    record {
+      text = c.loop-room.text.items ++ read;
+      consumed = Consumes-more (g.S.Source.left c.args.src.now) (g.S.Source.left c.loop-room.src) (g.S.Source.left c.read.new.self) c.loop-room.text.items read c.loop-room.invariant.consumed c.in-Ok.ensures.bytes.0;
+      most = omega (arith, length-append c.loop-room.text.items read, c.loop-room.text.ok.0, c.in-Ok.ensures.bound);
+      tells = tt;
+    }

@@ -1,0 +1,20 @@
+use Rattle.std.proofs.Common.{rules, ◌≡◌}
+use Rattle.airy_math.specs.RationalLaws.{0ℚ}
+use Rattle.tensor_text.specs.Pieces.{place_piece, value_in}
+use Rattle.tensor_text.proofs.WriteLemmas.{writes_nothing}
+use Rattle.tensor_text.proofs.ZeroLemmas.{zero_test, some_test}
+use Rattle.tensor_text.proofs.writing.write_place.Goals as goal
+
+pub returns-then-is_zero : goal.returns-then-is_zero
+unfolding place_piece
+returns-then-is_zero g c =
+    let none : (value_in c.args.letter c.args.t.now c.args.i c.args.j c.args.k) ≡ 0ℚ = search rules in
+    let test = zero_test (value_in c.args.letter c.args.t.now c.args.i c.args.j c.args.k) none in
+    rw test (writes_nothing (g.W.Sink.taken c.args.out.now) (g.W.Sink.faults c.args.out.now) tt)
+
+pub returns : goal.returns
+unfolding place_piece
+returns g c =
+    let some : ((value_in c.args.letter c.args.t.now c.args.i c.args.j c.args.k) ≡ 0ℚ → ⊥) = search rules in
+    let test = some_test (value_in c.args.letter c.args.t.now c.args.i c.args.j c.args.k) some in
+    rw (test, ← c.value-v.ensures) c.write_entry.ensures

@@ -1,0 +1,11 @@
+use Rattle.std.proofs.Common.{◌≡◌, ◌-◌, ◌≤◌}
+use Rattle.std.specs.Io.KnownBytes.{Appends}
+use Rattle.tensor_text.specs.Pieces.{each_from, plane_piece}
+use Rattle.tensor_text.proofs.writing.write_places.Given as goal
+
+abbrev pub invariant-loop-i : goal.invariant-loop-i
+invariant-loop-i g l = record {
+  written : Appends (g.W.Sink.taken l.fn.out) (g.W.Sink.taken l.out) (each_from (plane_piece l.letter l.t) 0 (l.i - 0));
+  within : l.i ≤ l.t.dim;
+  kept : g.W.Sink.faults l.out ≡ g.W.Sink.faults l.fn.out;
+}

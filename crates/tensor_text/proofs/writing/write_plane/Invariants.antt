@@ -1,0 +1,11 @@
+use Rattle.std.proofs.Common.{◌≡◌, ◌-◌, ◌≤◌}
+use Rattle.std.specs.Io.KnownBytes.{Appends}
+use Rattle.tensor_text.specs.Pieces.{each_from, row_piece}
+use Rattle.tensor_text.proofs.writing.write_plane.Given as goal
+
+abbrev pub invariant-loop-j : goal.invariant-loop-j
+invariant-loop-j g l = record {
+  written : Appends (g.W.Sink.taken l.fn.out) (g.W.Sink.taken l.out) (each_from (row_piece l.letter l.t l.i) 0 (l.j - 0));
+  within : l.j ≤ l.t.dim;
+  kept : g.W.Sink.faults l.out ≡ g.W.Sink.faults l.fn.out;
+}

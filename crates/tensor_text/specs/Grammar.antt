@@ -1,0 +1,175 @@
+-- The grammar of a text of tensors, by cases on its lines, and a line by cases on its words.
+use Rattle.std.specs.Prelude.{ℕ, suc, min, max, List, [], ◌∷◌, Bool, true, false, not, ◌&&◌, ◌==◌, cond, Option, Some, None, codes}
+use Rattle.std.specs.Option.{option_map, option_and_then}
+use Rattle.std.specs.Str.{bytes_eq}
+use Rattle.airy_math.specs.Rational.{ℚ}
+use Rattle.airy_math.specs.Tensors.{is_zero}
+use Rattle.airy_math.specs.declared.Shape.TheVariants.{All}
+use Rattle.sparse_tensor.specs.Entries.{Entries, no_entries, is_taken, is_given}
+use Rattle.sparse_tensor.specs.Puts.{with_a, with_b, with_c, with_d}
+use Rattle.tensor_text.specs.Lines.{lines, words}
+use Rattle.tensor_text.specs.Values.{index_of, dim_of, read_value_of}
+use Rattle.tensor_text.specs.declared.letters.Letter.{Letter}
+use Rattle.tensor_text.specs.declared.letters.Letter.TheVariants.{A, B, C}
+use Rattle.tensor_text.specs.declared.refusals.LineKind.{LineKind}
+use Rattle.tensor_text.specs.declared.refusals.LineKind.TheVariants.{Header, Dim, Word, Count, Index, Number, Twice, NoEnd, After}
+
+-- What a text gives: its entries, or its first refused line with the first check that fails there.
+pub data TextReading : Type 0 where
+  Read : Entries → TextReading
+  Refused : ℕ → LineKind → TextReading
+
+-- ---- the lines that count
+
+-- The lines that count, each with its number and its words. At the end stands the number that a further line would have.
+pub data Lines : Type 0 where
+  Line : ℕ → List (List ℕ) → Lines → Lines
+  End : ℕ → Lines
+
+-- a word that begins with `#`
+unfoldable pub is_note : List ℕ → Bool
+is_note [] = false
+is_note (c ∷ cs) = c == 35
+
+-- a line without words, or whose first word begins with `#`
+unfoldable pub is_skipped : List (List ℕ) → Bool
+is_skipped [] = true
+is_skipped (word ∷ more) = is_note word
+
+-- the lines that count of these, of which the first has number n
+unfoldable pub counted : ℕ → List (List ℕ) → Lines
+counted n [] = End n
+counted n (line ∷ more) = cond (is_skipped (words line)) (counted (suc n) more) (Line n (words line) (counted (suc n) more))
+
+-- ---- words of a line
+
+-- the one word, where there is just one
+unfoldable pub only_word : List (List ℕ) → Option (List ℕ)
+only_word [] = None
+only_word (word ∷ []) = Some word
+only_word (word ∷ more ∷ rest) = None
+
+-- the words of an index and a value, where there are just two
+unfoldable pub two_words : List (List ℕ) → Option (List ℕ × List ℕ)
+two_words [] = None
+two_words (i ∷ more) = option_map (λ v. (i, v)) (only_word more)
+
+-- the words of three indices and a value
+pub record PlaceWords : Type 0 where
+  pub i : List ℕ
+  pub j : List ℕ
+  pub k : List ℕ
+  pub v : List ℕ
+
+-- where there are just four
+unfoldable pub place_words : List (List ℕ) → Option PlaceWords
+place_words [] = None
+place_words (i ∷ []) = None
+place_words (i ∷ j ∷ more) = option_map (λ p. record { i = i; j = j; k = p.0; v = p.1 }) (two_words more)
+
+-- `airy 1`
+unfoldable pub is_version : Option (List ℕ) → Bool
+is_version None = false
+is_version (Some word) = bytes_eq word (codes "1")
+
+unfoldable pub is_header : List (List ℕ) → Bool
+is_header [] = false
+is_header (word ∷ more) = bytes_eq word (codes "airy") && is_version (only_word more)
+
+-- `dim N`
+unfoldable pub dim_line : List (List ℕ) → Option ℕ
+dim_line [] = None
+dim_line (word ∷ more) = cond (bytes_eq word (codes "dim")) (option_and_then dim_of (only_word more)) None
+
+-- ---- a line behind the dim line
+
+-- What it gives to the entries before it: the entries with it, or the end, or the first check that it fails.
+pub data Said : Type 0 where
+  Stored : Entries → Said
+  Ended : Said
+  Fails : LineKind → Said
+
+-- what follows from what was found, or a failed check
+unfoldable pub checked : {A : Type 0} → LineKind → Option A → (A → Said) → Said
+checked kind None next = Fails kind
+checked kind (Some x) next = next x
+
+-- a value that isn't 0 wants a place that isn't taken
+unfoldable pub stored : Bool → ℚ → Entries → Said
+stored taken v t = cond (taken && not (is_zero v)) (Fails Twice) (Stored t)
+
+-- a place of A, B or C; for A and C the places (j,k) and (k,j) are one
+unfoldable pub taken_in : Letter → Entries → ℕ → ℕ → ℕ → Bool
+taken_in A t i j k = is_taken t.a i (min j k) (max j k)
+taken_in B t i j k = is_taken t.b i j k
+taken_in C t i j k = is_taken t.c i (min j k) (max j k)
+
+unfoldable pub with_in : Letter → Entries → ℕ → ℕ → ℕ → ℚ → Entries
+with_in A t i j k v = with_a t i j k v
+with_in B t i j k v = with_b t i j k v
+with_in C t i j k v = with_c t i j k v
+
+-- three indices and a value
+unfoldable pub place_line : Letter → Entries → List (List ℕ) → Said
+place_line letter t more = checked Count (place_words more) λ w.
+    checked Index (index_of t.dim w.i) λ i.
+    checked Index (index_of t.dim w.j) λ j.
+    checked Index (index_of t.dim w.k) λ k.
+    checked Number (read_value_of w.v) λ v. stored (taken_in letter t i j k) v (with_in letter t i j k v)
+
+-- an index and a value, of D
+unfoldable pub index_line : Entries → List (List ℕ) → Said
+index_line t more = checked Count (two_words more) λ w.
+    checked Index (index_of t.dim w.0) λ i.
+    checked Number (read_value_of w.1) λ v. stored (is_given t.d i) v (with_d t i v)
+
+unfoldable pub end_line : List (List ℕ) → Said
+end_line [] = Ended
+end_line (word ∷ more) = Fails Count
+
+unfoldable pub letter_of : List ℕ → Option Letter
+letter_of word = cond (bytes_eq word (codes "A")) (Some A) (cond (bytes_eq word (codes "B")) (Some B) (cond (bytes_eq word (codes "C")) (Some C) None))
+
+unfoldable pub said_by : Option Letter → Entries → List ℕ → List (List ℕ) → Said
+said_by (Some letter) t word more = place_line letter t more
+said_by None t word more = cond (bytes_eq word (codes "D")) (index_line t more) (cond (bytes_eq word (codes "end")) (end_line more) (Fails Word))
+
+-- by its first word; a line that counts has one
+unfoldable pub said : Entries → List (List ℕ) → Said
+said t [] = Fails Word
+said t (word ∷ more) = said_by (letter_of word) t word more
+
+-- ---- the lines in order, from the last to the first
+
+-- behind `end`
+unfoldable pub after_end : Entries → Lines → TextReading
+after_end t (End n) = Read t
+after_end t (Line n line rest) = Refused n After
+
+-- what line n leads to, by what it gives: further entries, or what stands behind `end`
+unfoldable pub then_read : ℕ → Said → (Entries → TextReading) → TextReading → TextReading
+then_read n (Stored t) next ended = next t
+then_read n Ended next ended = ended
+then_read n (Fails kind) next ended = Refused n kind
+
+-- behind the dim line and some entries
+unfoldable pub entries_from : Entries → Lines → TextReading
+entries_from t (End n) = Refused n NoEnd
+entries_from t (Line n line rest) = then_read n (said t line) (λ u. entries_from u rest) (after_end t rest)
+
+unfoldable pub dim_read : ℕ → Option ℕ → Lines → TextReading
+dim_read n None rest = Refused n Dim
+dim_read n (Some dim) rest = entries_from (no_entries dim All false) rest
+
+-- behind the header
+unfoldable pub dim_from : Lines → TextReading
+dim_from (End n) = Refused n Dim
+dim_from (Line n line rest) = dim_read n (dim_line line) rest
+
+unfoldable pub header_from : Lines → TextReading
+header_from (End n) = Refused n Header
+header_from (Line n line rest) = cond (is_header line) (dim_from rest) (Refused n Header)
+
+-- What the grammar gives to a text.
+unfoldable pub reading_of : List ℕ → TextReading
+reading_of text = header_from (counted 1 (lines text))

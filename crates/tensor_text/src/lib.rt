@@ -1,0 +1,21 @@
+//! The text of tensors, both ways: a reader that gives exactly what the grammar gives, and a writer of the one canonical text.
+#![tactic(auto)]
+
+mod entries;
+mod letters;
+mod lines;
+mod places;
+mod reading;
+mod refusals;
+mod text;
+mod values;
+mod words;
+mod writing;
+
+pub use reading::read_tensors;
+pub use refusals::{LineKind, TextErr};
+pub use values::read_value;
+pub use writing::write_tensors;
+
+#[cfg(test)]
+mod tests;

@@ -1,0 +1,48 @@
+ghost use Rattle.std.specs.Prelude.{◌≡◌};
+ghost use Rattle.tensor_text.specs.Answers.{Reads, HasReadCause};
+ghost use Rattle.tensor_text.specs.Steps.{BytesRead};
+
+use crate::refusals::TextErr;
+use crate::text::read_text;
+use airy_io::Source;
+use sparse_tensor::Tensors;
+use std::alloc::Global;
+
+/// The most bytes of a text.
+const MOST_BYTES: usize = 1_048_576;
+
+/// Reads a source to its end and gives the tensors of its text, of shape All and without letter, as the grammar says.
+///
+/// `ReadFault` comes only where the source's count of faults rose, and every other answer leaves that count. `TooLong`
+/// comes where the source gives a byte beyond 1,048,576, and reading stops at that byte. `Line` comes exactly where the
+/// grammar refuses the text, with its first refused line and the first check that fails there, after the source was read
+/// to its end.
+pub fn read_tensors<S: Source>(alloc: Global, src: &mut S) -> Result<Tensors, TextErr>
+    ensures read { Reads (S.left src.old) (S.left src.new) result }
+    ensures cause { HasReadCause (S.faults src.old) (S.faults src.new) result }
+{
+    let text = read_bytes(alloc, src)?;
+    read_text(alloc, text.as_slice())
+}
+
+/// The bytes of a source up to its end.
+fn read_bytes<S: Source>(alloc: Global, src: &mut S) -> Result<Vec<u8>, TextErr>
+    ensures read { BytesRead (λ v. v.items) (S.left src.old) (S.left src.new) result }
+    ensures cause { HasReadCause (S.faults src.old) (S.faults src.new) result }
+{
+    let mut room = [0u8; 4096];
+    let mut text = Vec::new(alloc);
+    while text.len() <= MOST_BYTES {
+        let most = room.len().min(MOST_BYTES + 1 - text.len());
+        let Ok(count) = src.read(&mut room[..most]) else {
+            return Err(TextErr::ReadFault);
+        };
+        if count == 0 {
+            return Ok(text);
+        }
+        if text.extend_from_slice(&room[..count]).is_err() {
+            return Err(TextErr::NoMemory);
+        }
+    }
+    Err(TextErr::TooLong)
+}
