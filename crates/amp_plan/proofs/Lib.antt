@@ -1,0 +1,17 @@
+pub mod ListingLemmas
+pub mod KeyLemmas
+pub mod WindowLemmas
+pub mod LevelLemmas
+pub mod SearchLemmas
+pub mod LimitLemmas
+pub mod PlanLemmas
+pub mod RowLemmas
+pub mod ListWalkLemmas
+pub mod RankWalkLemmas
+pub mod WalkLemmas
+pub mod SplitWalkLemmas
+pub mod PartLemmas
+pub mod MarkLemmas
+pub mod NeedLemmas
+pub mod GraphLemmas
+pub mod NeedsFacts

@@ -1,0 +1,25 @@
+use Rattle.std.proofs.Common.{arith, rules, sym, ◌∙◌, ◌≡◌, ◌≤◌, ◌+◌, ◌*◌, suc, ap, length, subst}
+use Rattle.std.specs.Int.RustNames.{unsigned_abs}
+use Rattle.std.proofs.lemmas.Int.{ints}
+use mir.Val.{to_z, of_z}
+use mir.Syntax.{w64}
+use Rattle.airy_math.specs.Shapes.{law_number}
+use Rattle.airy_math.specs.Cuts.{letter_of, natural}
+use Rattle.sparse_tensor.specs.Grades.{IsSmallLaw}
+use Rattle.amp_plan.proofs.WindowLemmas.{law_small, no_room, room_is, natural_none, natural_some}
+use Rattle.amp_plan.proofs.letter.letter_at.Goals as goal
+
+pub returns-in_default : goal.returns-in_default
+returns-in_default c = sym (no_room c.args.tensors.now.shape c.args.key.now (λ l e. c.in_default.not-AtMost l (c.shape.ensures ∙ e)))
+
+pub returns-then-room-lt0 : goal.returns-then-room-lt0
+returns-then-room-lt0 c = sym (room_is c.args.tensors.now.shape c.in-AtMost.law c.args.key.now c.room_of-room.result (sym c.shape.ensures ∙ c.in-AtMost.is) c.room_of-room.ensures.value ∙ natural_none c.room_of-room.result (omega (arith, ints)))
+
+pub room_of-room-requires : goal.room_of-room-requires
+room_of-room-requires c = subst IsSmallLaw (sym c.shape.ensures ∙ c.in-AtMost.is) c.are_sound.ensures.entries.law
+
+pub overflow_cast-result : goal.overflow_cast-result
+overflow_cast-result c = omega (arith, ints, c.room_of-room.ensures.most)
+
+pub returns : goal.returns
+returns c = natural_some c.room_of-room.result (to_z w64 (of_z w64 c.room_of-room.result)) (omega (arith, ints)) (search rules) ∙ sym (room_is c.args.tensors.now.shape c.in-AtMost.law c.args.key.now c.room_of-room.result (sym c.shape.ensures ∙ c.in-AtMost.is) c.room_of-room.ensures.value)

@@ -1,0 +1,17 @@
+use Rattle.std.proofs.Common.{rules, arith, ◌≡◌, ap, sym, subst, ◌∙◌, length, ◌++◌, ◌∷◌, []}
+use Rattle.std.specs.Prelude.{Err}
+use Rattle.airy_math.specs.Keys.{key_of, euler}
+use Rattle.amp_plan.proofs.KeyLemmas.{no_error, ordered-sorted, added_where_ok}
+use Rattle.amp_plan.proofs.listing.add_key.Goals as goal
+
+pub unreachable-requires : goal.unreachable-requires
+unfolding euler
+unreachable-requires c = no_error c.in_default.field-0
+    (λ e. let n = c.of.ensures.none.0 (c.in_default.is ∙ ap Err e) in omega (arith, ap length n))
+    (λ e. let n = c.of.ensures.many.0 (c.in_default.is ∙ ap Err e) in omega (arith, n))
+    (λ e. let n = c.of.ensures.unstable.0 (c.in_default.is ∙ ap Err e) in omega (arith, n.2))
+
+pub returns-clause-added : goal.returns-clause-added
+returns-clause-added c =
+    let e : c.in-Ok.key ≡ key_of c.args.genus c.args.indices.now = c.in-Ok.ensures.key ∙ ap (key_of c.args.genus) (ordered-sorted 0 256 c.args.indices.now c.requires.sorted) in
+    added_where_ok c.map_err.result c.push.result _ _ _ _ c.map_err.ensures.variant c.push.ensures.items (ap (λ k. c.args.keys.now.items ++ k ∷ []) e)

@@ -1,0 +1,10 @@
+pub mod Plans
+pub mod Places
+pub mod Needs
+pub mod Limits
+pub mod Listing
+pub mod Rows
+pub mod Ranked
+pub mod Walk
+pub mod Marks
+pub mod Kept

@@ -1,0 +1,21 @@
+//! The plan of a table: the keys that it has, in order, and their ranks.
+#![tactic(auto)]
+
+mod graph;
+mod letter;
+mod listing;
+mod marker;
+mod place;
+mod plan;
+mod ranking;
+mod rows;
+mod search;
+mod walk;
+mod window;
+
+pub use place::Place;
+pub use plan::{Plan, PlanCause, PlanErr};
+pub use walk::{TermVisitor, walk_terms};
+
+#[cfg(test)]
+mod tests;

@@ -1,0 +1,155 @@
+ghost use Rattle.std.specs.Prelude.{◌≡◌, ◌<◌, ◌≤◌, length, IfOk, IfErr};
+ghost use Rattle.airy_math.specs.Ranks.{ListsPlanned};
+ghost use Rattle.amp_plan.specs.Plans.{Planning, tensors_of, keys_of, key_at};
+ghost use Rattle.amp_plan.specs.Places.{place_in, letter_power};
+ghost use Rattle.amp_plan.specs.Limits.{Tells};
+ghost use Rattle.amp_plan.specs.Kept.{IsRanking};
+
+use crate::letter::letter_at;
+use crate::listing::{Stop, add_level};
+use crate::search::{are_below, place_among};
+use crate::{Place, PlanCause, PlanErr};
+use airy_index::{Covers, Key};
+use sparse_tensor::Tensors;
+use std::alloc::Global;
+use std::marker::Model;
+
+/// The planned keys of tensors up to a bound, with their ranks.
+#[derive(Drop)]
+pub(crate) struct Ranking {
+    tensors: Tensors,
+    bound: u8,
+    keys: Vec<Key>,
+}
+
+impl Model for Ranking {
+    ghost use Rattle.amp_plan.specs.Plans.{Planning, planning_code};
+    ghost use Rattle.amp_plan.specs.Kept.{IsRanking};
+
+    ghost Value = { Planning };
+
+    ghost coded = { planning_code };
+
+    ghost view = { λ r. record { tensors = r.tensors; bound = r.bound } };
+
+    ghost invariant = { λ r. IsRanking (record { tensors = r.tensors; bound = r.bound }) r.keys.items };
+}
+
+impl Ranking {
+    /// The ranking of the tensors up to a bound from 1 to 24.
+    pub(crate) fn make(alloc: Global, t: Tensors, bound: u8) -> Result<Ranking, PlanErr>
+        requires some { 0 < bound }
+        requires most { bound ≤ 24 }
+        ensures ranking { IfOk result (λ r. r ≡ record { tensors = t; bound = bound }) }
+        ensures cause { IfErr result (λ e. Tells (record { tensors = t; bound = bound }) e.cause) }
+        ensures back { IfErr result (λ e. e.tensors ≡ t) }
+    {
+        match planned_keys(alloc, &t, bound) {
+            Ok(keys) => Ok(Ranking {
+                tensors: t,
+                bound,
+                keys,
+            }),
+            Err(cause) => Err(PlanErr { cause, tensors: t }),
+        }
+    }
+
+    /// Where the key stands.
+    pub(crate) fn rank_of(&self, key: &Key) -> Place
+        ensures { result ≡ place_in self.now key.now }
+    {
+        if key.euler() > u16::from(self.bound) {
+            return Place::Beyond;
+        }
+        if !self.tensors.shape().covers(key) {
+            return Place::Zero;
+        }
+        if !are_below(self.tensors.dim(), key.idx()) {
+            return Place::BadIndex;
+        }
+        key.is_key();
+        airy_math::planned_once();
+        airy_math::plan_ascends();
+        Place::At(place_among(self.keys.as_slice(), key))
+    }
+
+    /// The keys, in order.
+    pub(crate) fn keys(&self) -> &[Key]
+        ensures { result.now ≡ keys_of self.now }
+    {
+        self.keys.as_slice()
+    }
+
+    /// The key of a rank.
+    pub(crate) fn key(&self, rank: u32) -> Key
+        requires { rank < length (keys_of self.now) }
+        ensures { result ≡ key_at self.now rank }
+    {
+        self.keys[rank as usize].copy()
+    }
+
+    /// The number of planned keys.
+    pub(crate) fn len(&self) -> u32
+        ensures { result ≡ length (keys_of self.now) }
+    {
+        self.keys.len() as u32
+    }
+
+    /// The bound on the Euler number.
+    pub(crate) fn bound(&self) -> u8
+        ensures { result ≡ self.now.bound }
+    {
+        self.bound
+    }
+
+    /// The tensors.
+    pub(crate) fn tensors(&self) -> &Tensors
+        ensures { result.now ≡ self.now.tensors }
+    {
+        &self.tensors
+    }
+
+    /// The tensors, given back.
+    pub(crate) fn into_tensors(self) -> Tensors
+        ensures { result ≡ self.tensors }
+    {
+        self.tensors
+    }
+
+    /// The power of the letter at a key, 0 where the tensors carry none.
+    pub(crate) fn letter(&self, key: &Key) -> u16
+        ensures { result ≡ letter_power self.now key.now }
+    {
+        if !self.tensors.letter() {
+            return 0;
+        }
+        letter_at(&self.tensors, key)
+    }
+
+    /// A ranking is within the limits on the bound and the keys: the fact, for proofs of callers.
+    pub(crate) fn is_small(&self)
+        ensures some { 0 < self.now.bound }
+        ensures most { self.now.bound ≤ 24 }
+        ensures few { length (keys_of self.now) ≤ 200000 }
+    {
+        let _bound = self.bound;
+    }
+}
+
+/// The planned keys up to a bound from 1 to 24.
+fn planned_keys(alloc: Global, tensors: &Tensors, bound: u8) -> Result<Vec<Key>, PlanCause>
+    requires some { 0 < bound }
+    requires most { bound ≤ 24 }
+    ensures ranking { IfOk result (λ keys. IsRanking (record { tensors = tensors.now; bound = bound }) keys.items) }
+    ensures cause { IfErr result (λ cause. Tells (record { tensors = tensors.now; bound = bound }) cause) }
+{
+    let mut keys = Vec::new(alloc);
+    for level in 1..bound + 1 {
+        match add_level(&mut keys, tensors, level) {
+            Ok(()) => {}
+            Err(Stop::Full) => return Err(PlanCause::Cells { level }),
+            Err(Stop::NoMemory) => return Err(PlanCause::NoMemory),
+        }
+    }
+    Ok(keys)
+}

@@ -1,0 +1,351 @@
+ghost use Rattle.std.specs.Prelude.{◌≡◌, ◌↔◌, ◌<◌, ◌≤◌, ◌∷◌, ◌++◌, ◌^◌, ◌-◌, [], ℕ, length, drop, nat_eq};
+ghost use Rattle.airy_math.specs.Rational.{whole};
+ghost use Rattle.airy_math.specs.Keys.{key_of, head_or, insert, remove, ordered, times};
+ghost use Rattle.airy_math.specs.Splits.{runs};
+ghost use Rattle.airy_math.specs.Terms.{terms, obtained_half};
+ghost use Rattle.airy_math.specs.Planned.{IsPlanned};
+ghost use Rattle.airy_index.specs.SplitValues.{split_value};
+ghost use Rattle.amp_plan.specs.Plans.{tensors_of, rank_at};
+ghost use Rattle.amp_plan.specs.Ranked.{RankedTerm, Alone, Once, Joined, Twice, NameAllowed, Takes, all_ranked};
+ghost use Rattle.amp_plan.specs.Walk.{HasRoom, IsPartOf, live_rank, once_part, run_part, b_part, joined_part, split_part, genus_part, product_part, entry_part, c_part};
+
+use crate::ranking::Ranking;
+use crate::{Place, Plan};
+use airy_index::{Key, Split, Splits};
+use arrayvec::ArrayVec;
+use frac128::Frac;
+
+/// Takes the terms of a pivot sum one after another, with ranks in place of keys.
+pub trait TermVisitor {
+    ghost State: { Type 0 };
+
+    ghost state: { Self → Self.State };
+
+    ghost step: { Self.State → RankedTerm → Self.State };
+
+    ghost allows: { Self → ℕ → Type 0 };
+
+    /// The term v.
+    fn alone(&mut self, v: Frac)
+        ensures step { state self.new ≡ step (state self.old) (Alone v) }
+        ensures stays { (r : ℕ) → allows self.new r ↔ allows self.old r };
+
+    /// The term (m v) F, where v stands for m equal indices, and F stands at the rank.
+    fn once(&mut self, times: u8, v: Frac, rank: u32)
+        requires { allows self.old rank }
+        ensures step { state self.new ≡ step (state self.old) (Once (whole times) v rank) }
+        ensures stays { (r : ℕ) → allows self.new r ↔ allows self.old r };
+
+    /// The term w F, where w is None if it isn't obtained.
+    fn joined(&mut self, weight: Option<Frac>, rank: u32)
+        requires { allows self.old rank }
+        ensures step { state self.new ≡ step (state self.old) (Joined weight rank) }
+        ensures stays { (r : ℕ) → allows self.new r ↔ allows self.old r };
+
+    /// The term ((w q) F1) F2, where w is None if it isn't obtained.
+    fn twice(&mut self, weight: Option<Frac>, ways: u64, left: u32, right: u32)
+        requires left { allows self.old left }
+        requires right { allows self.old right }
+        requires ways { ways < 2 ^ 63 }
+        ensures step { state self.new ≡ step (state self.old) (Twice weight (whole ways) left right) }
+        ensures stays { (r : ℕ) → allows self.new r ↔ allows self.old r };
+}
+
+/// The list without its first x.
+fn without(list: &[u8], x: u8) -> ArrayVec<u8, 26>
+    requires { length list.now ≤ 26 }
+    ensures { result.items ≡ remove x list.now }
+{
+    let mut left = ArrayVec::new();
+    let mut found = false;
+    for y in list {
+        if !found && *y == x {
+            found = true;
+        } else {
+            left.push(*y);
+        }
+    }
+    left
+}
+
+/// The list with one more index at its end.
+fn with_index(list: &[u8], x: u8) -> ArrayVec<u8, 26>
+    requires { length list.now < 26 }
+    ensures { result.items ≡ list.now ++ x ∷ [] }
+{
+    let mut all = ArrayVec::new();
+    for y in list {
+        all.push(*y);
+    }
+    all.push(x);
+    all
+}
+
+/// How often the first index of a list stands at its beginning.
+fn run_length(list: &[u8]) -> u8
+    requires some { 0 < length list.now }
+    requires few { length list.now ≤ 26 }
+    ensures run { runs list.now ≡ (head_or 0 list.now, result) ∷ runs (drop result list.now) }
+    ensures some { 0 < result }
+    ensures within { result ≤ length list.now }
+{
+    let first = list[0];
+    let mut length: u8 = 0;
+    for x in list {
+        if *x != first {
+            return length;
+        }
+        length += 1;
+    }
+    length
+}
+
+/// The rank of the key of a genus and a list with one more index, where that key is live.
+fn rank_with(ranking: &Ranking, genus: u8, list: &[u8], x: u8) -> Option<u32>
+    requires room { HasRoom (tensors_of ranking.now) ranking.now.bound genus (ordered list.now) }
+    requires small { x < ranking.now.tensors.dim }
+    ensures { result ≡ live_rank ranking.now (key_of genus (insert x (ordered list.now))) }
+{
+    ranking.is_small();
+    let indices = with_index(list, x);
+    match Key::of(genus, indices.as_slice()) {
+        Ok(key) => match ranking.rank_of(&key) {
+            Place::At(rank) => Some(rank),
+            _ => None,
+        },
+        Err(_) => None,
+    }
+}
+
+/// A pair of indices of an entry of C, with its weight: v where they differ, else v (1/2), if that is obtained.
+#[derive(Clone, Copy)]
+struct Pair {
+    a: u8,
+    b: u8,
+    weight: Option<Frac>,
+}
+
+/// The weight of an entry of C.
+fn weight_of(a: u8, b: u8, v: Frac) -> Option<Frac>
+    ensures { result ≡ obtained_half (nat_eq a b) v }
+{
+    if a != b {
+        return Some(v);
+    }
+    match Frac::new(1, 2) {
+        Ok(half) => v.mul(half),
+        Err(_) => None,
+    }
+}
+
+/// Hands over all terms of the pivot sum of a planned key, for one of its indices, in their order.
+pub fn walk_terms<V: TermVisitor>(plan: &Plan, key: &Key, pivot: u8, visitor: &mut V)
+    requires planned { IsPlanned (tensors_of plan.now) plan.now.bound key.now }
+    requires pivot { 0 < times pivot key.now.idx }
+    requires allowed { NameAllowed (V.allows visitor.old) (all_ranked (rank_at plan.now) (terms (tensors_of plan.now) pivot key.now.g (remove pivot key.now.idx))) }
+    ensures { Takes V.allows V.state V.step (all_ranked (rank_at plan.now) (terms (tensors_of plan.now) pivot key.now.g (remove pivot key.now.idx))) visitor.old visitor.new }
+{
+    walk_ranked(plan.ranking(), key, pivot, visitor)
+}
+
+/// The same over a ranking.
+pub(crate) fn walk_ranked<V: TermVisitor>(ranking: &Ranking, key: &Key, pivot: u8, visitor: &mut V)
+    requires planned { IsPlanned (tensors_of ranking.now) ranking.now.bound key.now }
+    requires pivot { 0 < times pivot key.now.idx }
+    requires allowed { NameAllowed (V.allows visitor.old) (all_ranked (rank_at ranking.now) (terms (tensors_of ranking.now) pivot key.now.g (remove pivot key.now.idx))) }
+    ensures { Takes V.allows V.state V.step (all_ranked (rank_at ranking.now) (terms (tensors_of ranking.now) pivot key.now.g (remove pivot key.now.idx))) visitor.old visitor.new }
+{
+    key.is_key();
+    let genus = key.g();
+    let rest = without(key.idx(), pivot);
+    let rest = rest.as_slice();
+    match (genus, rest.len()) {
+        (0, 2) => visitor.alone(ranking.tensors().a(pivot, rest[0], rest[1])),
+        (1, 0) => visitor.alone(ranking.tensors().d(pivot)),
+        _ => {
+            walk_b(ranking, genus, pivot, rest, visitor);
+            walk_c(ranking, genus, pivot, rest, visitor);
+        }
+    }
+}
+
+/// Hands over the B terms.
+fn walk_b<V: TermVisitor>(ranking: &Ranking, genus: u8, pivot: u8, rest: &[u8], visitor: &mut V)
+    requires room { HasRoom (tensors_of ranking.now) ranking.now.bound genus rest.now }
+    requires allowed { NameAllowed (V.allows visitor.old) (b_part ranking.now pivot genus rest.now) }
+    ensures { Takes V.allows V.state V.step (b_part ranking.now pivot genus rest.now) visitor.old visitor.new }
+{
+    ranking.is_small();
+    let mut from = 0;
+    while from < rest.len() {
+        let times = run_length(&rest[from..]);
+        walk_run(ranking, genus, pivot, rest, (rest[from], times), visitor);
+        from += times as usize;
+    }
+}
+
+/// Hands over the B terms of a run.
+fn walk_run<V: TermVisitor>(
+    ranking: &Ranking,
+    genus: u8,
+    pivot: u8,
+    rest: &[u8],
+    run: (u8, u8),
+    visitor: &mut V,
+)
+    requires room { HasRoom (tensors_of ranking.now) ranking.now.bound genus rest.now }
+    requires allowed { NameAllowed (V.allows visitor.old) (run_part ranking.now pivot genus rest.now run) }
+    ensures { Takes V.allows V.state V.step (run_part ranking.now pivot genus rest.now run) visitor.old visitor.new }
+{
+    ranking.is_small();
+    let left = without(rest, run.0);
+    let left = left.as_slice();
+    let row = ranking.tensors().row_b(pivot, run.0);
+    for entry in row {
+        walk_once(ranking, genus, left, run.1, *entry, visitor);
+    }
+}
+
+/// Hands over the B term of an entry, where its key is live. The list is what is left without the index of the run.
+fn walk_once<V: TermVisitor>(
+    ranking: &Ranking,
+    genus: u8,
+    left: &[u8],
+    times: u8,
+    entry: (u8, Frac),
+    visitor: &mut V,
+)
+    requires room { HasRoom (tensors_of ranking.now) ranking.now.bound genus left.now }
+    requires small { entry.0 < ranking.now.tensors.dim }
+    requires allowed { NameAllowed (V.allows visitor.old) (once_part ranking.now genus left.now times entry) }
+    ensures { Takes V.allows V.state V.step (once_part ranking.now genus left.now times entry) visitor.old visitor.new }
+{
+    if let Some(rank) = rank_with(ranking, genus, left, entry.0) {
+        visitor.once(times, entry.1, rank);
+    }
+}
+
+/// Hands over the C terms.
+fn walk_c<V: TermVisitor>(ranking: &Ranking, genus: u8, pivot: u8, rest: &[u8], visitor: &mut V)
+    requires room { HasRoom (tensors_of ranking.now) ranking.now.bound genus rest.now }
+    requires allowed { NameAllowed (V.allows visitor.old) (c_part ranking.now pivot genus rest.now) }
+    ensures { Takes V.allows V.state V.step (c_part ranking.now pivot genus rest.now) visitor.old visitor.new }
+{
+    let row = ranking.tensors().row_c(pivot);
+    for entry in row {
+        walk_entry(ranking, genus, rest, *entry, visitor);
+    }
+}
+
+/// Hands over the C terms of an entry.
+fn walk_entry<V: TermVisitor>(
+    ranking: &Ranking,
+    genus: u8,
+    rest: &[u8],
+    entry: (u8, u8, Frac),
+    visitor: &mut V,
+)
+    requires room { HasRoom (tensors_of ranking.now) ranking.now.bound genus rest.now }
+    requires a { entry.0 < ranking.now.tensors.dim }
+    requires b { entry.1 < ranking.now.tensors.dim }
+    requires allowed { NameAllowed (V.allows visitor.old) (entry_part ranking.now genus rest.now entry) }
+    ensures { Takes V.allows V.state V.step (entry_part ranking.now genus rest.now entry) visitor.old visitor.new }
+{
+    let pair = Pair {
+        a: entry.0,
+        b: entry.1,
+        weight: weight_of(entry.0, entry.1, entry.2),
+    };
+    walk_joined(ranking, genus, rest, &pair, visitor);
+    walk_products(ranking, genus, rest, &pair, visitor);
+}
+
+/// Hands over the joined term of a pair, where there is one.
+fn walk_joined<V: TermVisitor>(
+    ranking: &Ranking,
+    genus: u8,
+    rest: &[u8],
+    pair: &Pair,
+    visitor: &mut V,
+)
+    requires room { HasRoom (tensors_of ranking.now) ranking.now.bound genus rest.now }
+    requires a { pair.now.a < ranking.now.tensors.dim }
+    requires b { pair.now.b < ranking.now.tensors.dim }
+    requires allowed { NameAllowed (V.allows visitor.old) (joined_part ranking.now genus rest.now pair.now.a pair.now.b pair.now.weight) }
+    ensures { Takes V.allows V.state V.step (joined_part ranking.now genus rest.now pair.now.a pair.now.b pair.now.weight) visitor.old visitor.new }
+{
+    if genus == 0 {
+        return;
+    }
+    ranking.is_small();
+    let with_b = with_index(rest, pair.b);
+    if let Some(rank) = rank_with(ranking, genus - 1, with_b.as_slice(), pair.a) {
+        visitor.joined(pair.weight, rank);
+    }
+}
+
+/// Hands over the products of a pair.
+fn walk_products<V: TermVisitor>(
+    ranking: &Ranking,
+    genus: u8,
+    rest: &[u8],
+    pair: &Pair,
+    visitor: &mut V,
+)
+    requires room { HasRoom (tensors_of ranking.now) ranking.now.bound genus rest.now }
+    requires a { pair.now.a < ranking.now.tensors.dim }
+    requires b { pair.now.b < ranking.now.tensors.dim }
+    requires allowed { NameAllowed (V.allows visitor.old) (product_part ranking.now genus rest.now pair.now.a pair.now.b pair.now.weight) }
+    ensures { Takes V.allows V.state V.step (product_part ranking.now genus rest.now pair.now.a pair.now.b pair.now.weight) visitor.old visitor.new }
+{
+    for k in 0..=genus {
+        walk_splits(ranking, genus, rest, pair, k, visitor);
+    }
+}
+
+/// Hands over the products of a pair with the genus k on the left.
+fn walk_splits<V: TermVisitor>(
+    ranking: &Ranking,
+    genus: u8,
+    rest: &[u8],
+    pair: &Pair,
+    k: u8,
+    visitor: &mut V,
+)
+    requires room { HasRoom (tensors_of ranking.now) ranking.now.bound genus rest.now }
+    requires a { pair.now.a < ranking.now.tensors.dim }
+    requires b { pair.now.b < ranking.now.tensors.dim }
+    requires k { k ≤ genus }
+    requires allowed { NameAllowed (V.allows visitor.old) (genus_part ranking.now genus rest.now pair.now.a pair.now.b pair.now.weight k) }
+    ensures { Takes V.allows V.state V.step (genus_part ranking.now genus rest.now pair.now.a pair.now.b pair.now.weight k) visitor.old visitor.new }
+{
+    ranking.is_small();
+    for split in Splits::of(rest) {
+        walk_split(ranking, genus, pair, k, &split, visitor);
+    }
+}
+
+/// Hands over the product of a pair and a split, where both its keys are live.
+fn walk_split<V: TermVisitor>(
+    ranking: &Ranking,
+    genus: u8,
+    pair: &Pair,
+    k: u8,
+    split: &Split,
+    visitor: &mut V,
+)
+    requires a { pair.now.a < ranking.now.tensors.dim }
+    requires b { pair.now.b < ranking.now.tensors.dim }
+    requires k { k ≤ genus }
+    requires split { IsPartOf (tensors_of ranking.now) ranking.now.bound genus k (split_value split.now) }
+    requires allowed { NameAllowed (V.allows visitor.old) (split_part ranking.now genus pair.now.a pair.now.b pair.now.weight k (split_value split.now)) }
+    ensures { Takes V.allows V.state V.step (split_part ranking.now genus pair.now.a pair.now.b pair.now.weight k (split_value split.now)) visitor.old visitor.new }
+{
+    let Some(left) = rank_with(ranking, k, split.part.as_slice(), pair.a) else {
+        return;
+    };
+    let Some(right) = rank_with(ranking, genus - k, split.rest.as_slice(), pair.b) else {
+        return;
+    };
+    visitor.twice(pair.weight, split.weight, left, right);
+}

@@ -1,0 +1,5 @@
+pub mod TableLemmas
+pub mod SummingLemmas
+pub mod NamedLemmas
+pub mod FillingLemmas
+pub mod TestLemmas

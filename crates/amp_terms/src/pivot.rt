@@ -1,0 +1,180 @@
+ghost use Rattle.std.specs.Prelude.{◌≡◌, ◌↔◌, ℕ, ◌<◌, Some, None};
+ghost use Rattle.airy_math.specs.Keys.{remove, times};
+ghost use Rattle.airy_math.specs.Obtained.{both_obtained, obtained_product, obtained_sum};
+ghost use Rattle.airy_math.specs.Planned.{IsPlanned};
+ghost use Rattle.airy_math.specs.RationalLaws.{0ℚ};
+ghost use Rattle.airy_math.specs.Terms.{terms};
+ghost use Rattle.amp_plan.specs.Plans.{tensors_of, keys_of, rank_at};
+ghost use Rattle.amp_terms.specs.declared.Outcome.{Outcome};
+ghost use Rattle.amp_terms.specs.Outcomes.{outcome_from, ranks_named, value_or_zero};
+ghost use Rattle.amp_terms.specs.Pivots.{noted as is_noted, pivot_outcome};
+ghost use Rattle.amp_plan.specs.Ranked.{AreAllowed, NameAllowed, all_ranked};
+
+use crate::Outcome;
+use airy_index::Key;
+use amp_plan::{Plan, TermVisitor, walk_terms};
+use frac128::Frac;
+
+/// Outcomes of ranks that can be read.
+pub trait Seen {
+    ghost Base: { Type 0 };
+
+    ghost made_over: { Self → Self.Base };
+
+    ghost has: { Self → ℕ → Type 0 };
+
+    ghost shown: { Self → ℕ → Outcome };
+
+    /// The outcome of a rank that it has.
+    fn at(&mut self, rank: u32) -> Outcome
+        requires { has self.old rank }
+        ensures outcome { result ≡ shown self.old rank }
+        ensures ranks { (r : ℕ) → has self.new r ↔ has self.old r }
+        ensures same { shown self.new ≡ shown self.old }
+        ensures base { made_over self.new ≡ made_over self.old };
+}
+
+/// The outcome of the pivot sum of a planned key, for one of its indices, over the outcomes of the ranks that its terms
+/// name: `Blocked` by the least of these without a Value, else `Over` where a step of the ordered sum leaves the range, else
+/// the `Value` of that sum. The recursion is that of Kontsevich and Soibelman, and of Andersen, Borot, Chekhov and Orantin.
+pub fn pivot_value<S: Seen>(plan: &Plan, key: &Key, pivot: u8, seen: &mut S) -> Outcome
+    requires planned { IsPlanned (tensors_of plan.now) plan.now.bound key.now }
+    requires pivot { 0 < times pivot key.now.idx }
+    requires seen { AreAllowed (S.has seen.old) (ranks_named (keys_of plan.now) (terms (tensors_of plan.now) pivot key.now.g (remove pivot key.now.idx))) }
+    ensures outcome { result ≡ pivot_outcome (tensors_of plan.now) (keys_of plan.now) (S.shown seen.old) key.now pivot }
+    ensures ranks { (r : ℕ) → S.has seen.new r ↔ S.has seen.old r }
+    ensures same { S.shown seen.new ≡ S.shown seen.old }
+    ensures base { S.made_over seen.new ≡ S.made_over seen.old }
+{
+    let mut sum = PivotSum {
+        seen,
+        blocked: None,
+        sum: Some(Frac::whole(0)),
+    };
+    add_terms(plan, key, pivot, &mut sum);
+    sum.outcome()
+}
+
+/// Adds all terms to a sum that is 0.
+fn add_terms<S: Seen>(plan: &Plan, key: &Key, pivot: u8, sum: &mut PivotSum<'_, S>)
+    requires planned { IsPlanned (tensors_of plan.now) plan.now.bound key.now }
+    requires pivot { 0 < times pivot key.now.idx }
+    requires seen { NameAllowed (S.has sum.old.seen.now) (all_ranked (rank_at plan.now) (terms (tensors_of plan.now) pivot key.now.g (remove pivot key.now.idx))) }
+    requires unblocked { sum.old.blocked ≡ None }
+    requires zero { sum.old.sum ≡ Some 0ℚ }
+    ensures outcome { outcome_from sum.new.blocked sum.new.sum ≡ pivot_outcome (tensors_of plan.now) (keys_of plan.now) (S.shown sum.old.seen.now) key.now pivot }
+    ensures same_reference { sum.new.seen.ghost_name ≡ sum.old.seen.ghost_name }
+    ensures ranks { (r : ℕ) → S.has sum.new.seen.now r ↔ S.has sum.old.seen.now r }
+    ensures same { S.shown sum.new.seen.now ≡ S.shown sum.old.seen.now }
+    ensures base { S.made_over sum.new.seen.now ≡ S.made_over sum.old.seen.now }
+{
+    walk_terms(plan, key, pivot, sum);
+}
+
+/// The sum of the terms so far, and the least rank so far without a Value.
+#[derive(Drop)]
+struct PivotSum<'a, S> {
+    seen: &'a mut S,
+    blocked: Option<u32>,
+    sum: Option<Frac>,
+}
+
+impl<'a, S: Seen> TermVisitor for PivotSum<'a, S> {
+    ghost use Rattle.std.specs.Prelude.{Option, ℕ};
+    ghost use Rattle.airy_math.specs.Rational.{ℚ};
+    ghost use Rattle.amp_terms.specs.declared.Outcome.{Outcome};
+    ghost use Rattle.amp_terms.specs.Pivots.{Summing, with_term};
+
+    ghost State = { Summing S.Base };
+
+    ghost state = { λ v. record { reader = v.seen.ghost_name; base = S.made_over v.seen.now; shown = S.shown v.seen.now; blocked = v.blocked; sum = v.sum } };
+
+    ghost step = { with_term };
+
+    ghost allows = { λ v r. S.has v.seen.now r };
+
+    fn alone(&mut self, v: Frac) {
+        self.sum = plus(self.sum, Some(v));
+    }
+
+    fn once(&mut self, times: u8, v: Frac, rank: u32) {
+        let outcome = self.seen.at(rank);
+        self.blocked = noted(self.blocked, rank, &outcome);
+        let weight = Frac::whole(i64::from(times)).mul(v);
+        self.sum = plus(self.sum, product(weight, number_of(&outcome)));
+    }
+
+    fn joined(&mut self, weight: Option<Frac>, rank: u32) {
+        let outcome = self.seen.at(rank);
+        self.blocked = noted(self.blocked, rank, &outcome);
+        self.sum = plus(self.sum, product(weight, number_of(&outcome)));
+    }
+
+    fn twice(&mut self, weight: Option<Frac>, ways: u64, left: u32, right: u32) {
+        let first = self.seen.at(left);
+        self.blocked = noted(self.blocked, left, &first);
+        let second = self.seen.at(right);
+        self.blocked = noted(self.blocked, right, &second);
+        let weight = product(weight, Frac::whole(ways as i64));
+        let term = product(product(weight, number_of(&first)), number_of(&second));
+        self.sum = plus(self.sum, term);
+    }
+}
+
+impl<S> PivotSum<'_, S> {
+    /// The outcome of the whole sum.
+    #[tactic(auto, unfolding(crate::specs::Outcomes::outcome_from))]
+    fn outcome(&self) -> Outcome
+        ensures { result ≡ outcome_from self.now.blocked self.now.sum }
+    {
+        match (self.blocked, self.sum) {
+            (Some(first), _) => Outcome::Blocked { first },
+            (None, Some(v)) => Outcome::Value(v),
+            (None, None) => Outcome::Over,
+        }
+    }
+}
+
+/// The least rank so far without a Value, after one more.
+#[tactic(auto, unfolding(crate::specs::Pivots::noted, crate::specs::Outcomes::has_value, crate::specs::Outcomes::smaller))]
+fn noted(blocked: Option<u32>, rank: u32, outcome: &Outcome) -> Option<u32>
+    ensures { result ≡ is_noted blocked rank outcome.now }
+{
+    match (outcome, blocked) {
+        (Outcome::Value(_), _) => blocked,
+        (_, Some(least)) => Some(least.min(rank)),
+        (_, None) => Some(rank),
+    }
+}
+
+/// The Value of an outcome, and 0 where it has none.
+fn number_of(outcome: &Outcome) -> Frac
+    ensures { result ≡ value_or_zero outcome.now }
+{
+    match outcome {
+        Outcome::Value(v) => *v,
+        _ => Frac::whole(0),
+    }
+}
+
+/// The sum with one more term, if both are obtained and their sum is.
+#[tactic(auto, unfolding(airy_math::specs::Obtained::both_obtained))]
+fn plus(sum: Option<Frac>, term: Option<Frac>) -> Option<Frac>
+    ensures { result ≡ both_obtained obtained_sum sum term }
+{
+    match (sum, term) {
+        (Some(sum), Some(term)) => sum.add(term),
+        _ => None,
+    }
+}
+
+/// The product of a number, if it is obtained, with another.
+#[tactic(auto, unfolding(airy_math::specs::Obtained::both_obtained))]
+fn product(weight: Option<Frac>, v: Frac) -> Option<Frac>
+    ensures { result ≡ both_obtained obtained_product weight (Some v) }
+{
+    match weight {
+        Some(weight) => weight.mul(v),
+        None => None,
+    }
+}
