@@ -1,0 +1,9 @@
+pub mod ObtainedLemmas
+pub mod ExactLemmas
+pub mod VerdictLemmas
+pub mod StepLemmas
+pub mod RowLemmas
+pub mod SumLoop
+pub mod ClosedLaw
+pub mod JumpLemmas
+pub mod SameVerdictLaw

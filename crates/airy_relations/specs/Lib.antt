@@ -1,0 +1,9 @@
+pub mod Sides
+pub mod Places
+pub mod Verdicts
+pub mod SameVerdict
+pub mod Numbers
+pub mod Walks
+pub mod Steps
+pub mod Rows
+pub mod Examples

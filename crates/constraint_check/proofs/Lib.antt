@@ -1,0 +1,9 @@
+pub mod NamedRanks
+pub mod FullTables
+pub mod PivotFacts
+pub mod EqualNumbers
+pub mod OtherPivots
+pub mod PivotsLeft
+pub mod KeysLeft
+pub mod FirstOver
+pub mod EndLaws

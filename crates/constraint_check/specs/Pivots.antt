@@ -1,0 +1,26 @@
+-- Tables of Values, and the verdict of one key's pivots.
+use Prim.Native.Nat.{ℕ}
+use mathlib.Core.Path.{◌≡◌}
+use mathlib.Core.List.{List}
+use lib.ListN.{length}
+use Rattle.std.specs.Prelude.{Option, None}
+use Rattle.airy_math.specs.Rational.{ℚ}
+use Rattle.airy_math.specs.Keys.{Key, head_or}
+use Rattle.amp_plan.specs.Plans.{Planning, tensors_of, keys_of}
+use Rattle.amp_terms.specs.declared.Outcome.{Outcome}
+use Rattle.amp_terms.specs.Tables.{full_table, first_without}
+use Rattle.series_law.specs.Check.{Verdict, Overflow, Orders}
+use Rattle.constraint_check.specs.declared.pivots.PivotsEnd.{PivotsEnd}
+use Rattle.constraint_check.specs.declared.pivots.PivotsEnd.TheVariants.{Agree, Over, Differ}
+
+-- The table holds the outcome of each rank of the plan, and each is a Value.
+pub record HoldsValues (p : Planning) (table : List (Option Outcome)) : Type 0 where
+  pub outcomes : table ≡ full_table (tensors_of p) p.bound
+  pub values : first_without table ≡ None
+  pub long : length table ≡ length (keys_of p)
+
+-- the verdict of a key with the Value w whose pivots end so, where next is the verdict of the keys behind it
+unfoldable pub verdict_after : Key → ℚ → PivotsEnd → Verdict → Verdict
+verdict_after key w Agree next = next
+verdict_after key w (Over i) next = Overflow key i
+verdict_after key w (Differ i v) next = Orders key (head_or 0 key.idx) w i v

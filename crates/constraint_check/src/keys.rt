@@ -1,0 +1,98 @@
+ghost use Rattle.std.specs.Prelude.{◌≡◌, ◌≢◌, ◌<◌, length};
+ghost use Rattle.airy_math.specs.Terms.{pivot_sum};
+ghost use Rattle.airy_math.specs.Series.{Series};
+ghost use Rattle.airy_math.specs.Solutions.{Solves};
+ghost use Rattle.amp_plan.specs.Plans.{tensors_of, keys_of, key_at};
+ghost use Rattle.amp_terms.specs.Tables.{full_table};
+ghost use Rattle.series_law.specs.Uniqueness.{series_of};
+ghost use Rattle.series_law.specs.Pivots.{AllPivots};
+ghost use Rattle.series_law.specs.Check.{check, check_keys};
+ghost use Rattle.constraint_check.specs.Pivots.{HoldsValues};
+ghost use Rattle.constraint_check.specs.Ends.{outcomes_of, values_of, Tells, NamesOver, IfSolution, IfOrders};
+
+use crate::CheckEnd;
+use crate::pivots::{PivotsEnd, check_pivots};
+use amp_plan::Plan;
+use amp_terms::Table;
+use frac128::Frac;
+
+/// The check of every pivot of a table that holds the outcome of each rank of the plan. In the recursion of Kontsevich and
+/// Soibelman, and of Andersen, Borot, Chekhov and Orantin, any index of a key can play the part of the pivot, and the amplitudes of a
+/// solution are the pivot sums of all of them. The Value of a key is its pivot sum at the least index, so the others decide.
+///
+/// `NotValue` comes exactly where a rank has no Value, and names the first such key in plan order; its outcome is Over. Else the keys
+/// are taken in plan order, and in each the distinct indices above the least, ascending: the first whose pivot sum leaves the range,
+/// or is another number than the key's Value, gives `Over` or `Orders`. `Solution` comes exactly where there is none. The
+/// table's series then solves the constraints of the plan's tensors up to the bound; at `Orders` no series does.
+///
+/// It takes no memory.
+pub fn check_table(plan: &Plan, table: &Table) -> CheckEnd
+    requires outcomes { table.now ≡ full_table (tensors_of plan.now) plan.now.bound }
+    requires len { length table.now ≡ length (keys_of plan.now) }
+    ensures verdict { Tells plan.now result (check (tensors_of plan.now) plan.now.bound (outcomes_of plan.now)) }
+    ensures over { NamesOver plan.now table.now result }
+    ensures passes { IfSolution result (AllPivots (tensors_of plan.now) plan.now.bound (outcomes_of plan.now)) }
+    ensures solves { IfSolution result (Solves (tensors_of plan.now) plan.now.bound (series_of (tensors_of plan.now) plan.now.bound (outcomes_of plan.now))) }
+    ensures sums { IfOrders result (λ key i v j w. (v ≡ pivot_sum (tensors_of plan.now) (values_of plan.now) key i) × (w ≡ pivot_sum (tensors_of plan.now) (values_of plan.now) key j)) }
+    ensures differ { IfOrders result (λ key i v j w. v ≢ w) }
+    ensures unsolvable { IfOrders result (λ key i v j w. (f : Series) → Solves (tensors_of plan.now) plan.now.bound f → ⊥) }
+{
+    plan.tensors().are_sound();
+    series_law::check();
+    first_failure(plan, table)
+}
+
+/// The first rank without a Value; else the first pivot that fails.
+fn first_failure(plan: &Plan, table: &Table) -> CheckEnd
+    requires outcomes { table.now ≡ full_table (tensors_of plan.now) plan.now.bound }
+    requires len { length table.now ≡ length (keys_of plan.now) }
+    ensures verdict { Tells plan.now result (check (tensors_of plan.now) plan.now.bound (outcomes_of plan.now)) }
+    ensures over { NamesOver plan.now table.now result }
+{
+    airy_math::planned_once();
+    airy_math::ranks();
+    if let Some(rank) = table.first_not_value() {
+        return CheckEnd::NotValue {
+            key: plan.key(rank),
+        };
+    }
+    check_keys(plan, table)
+}
+
+/// The first pivot that fails in a table of Values.
+#[tactic(auto, unfolding(crate::specs::Ends::NamesOver))]
+fn check_keys(plan: &Plan, table: &Table) -> CheckEnd
+    requires values { HoldsValues plan.now table.now }
+    ensures verdict { Tells plan.now result (check_keys (tensors_of plan.now) (values_of plan.now) (keys_of plan.now)) }
+    ensures over { NamesOver plan.now table.now result }
+{
+    airy_math::planned_once();
+    for rank in 0..plan.len() {
+        let key = plan.key(rank);
+        let value = key_value(plan, table, rank);
+        match check_pivots(plan, table, &key, value) {
+            PivotsEnd::Agree => {}
+            PivotsEnd::Over { pivot } => return CheckEnd::Over { key, pivot },
+            PivotsEnd::Differ { pivot, sum } => {
+                return CheckEnd::Orders {
+                    first: key.idx()[0],
+                    v1: value,
+                    second: pivot,
+                    v2: sum,
+                    key,
+                };
+            }
+        }
+    }
+    CheckEnd::Solution
+}
+
+/// The Value of a rank in a table of Values.
+fn key_value(plan: &Plan, table: &Table, rank: u32) -> Frac
+    requires values { HoldsValues plan.now table.now }
+    requires rank { rank < length (keys_of plan.now) }
+    ensures { result ≡ values_of plan.now (key_at plan.now rank) }
+{
+    airy_math::planned_once();
+    table.value(rank).unwrap()
+}
