@@ -1,0 +1,17 @@
+use Rattle.std.proofs.Common.{◌≡◌, ◌∙◌, refl, ap, subst}
+use Rattle.airy_math.specs.Relations.{Close}
+use Rattle.sparse_tensor.specs.Entries.{looked_up}
+use Rattle.airy_relations.specs.Verdicts.{verdict}
+use Rattle.airyrun.proofs.TextLemmas.{closed_ends, fails_ends}
+use Rattle.airyrun.proofs.texts.print_closed.Goals as goal
+
+pub returns-in-Closed : goal.returns-in-Closed
+returns-in-Closed g c =
+    closed_ends c.args.tensors c.args.bound _ _ _ _ _ c.job_uniqueness.ensures c.are_sound.ensures c.requires
+    (c.in-Closed.ensures.found ∙ ap (verdict (looked_up c.args.tensors)) c.dim.ensures)
+    (subst (Close (looked_up c.args.tensors)) c.dim.ensures (c.in-Closed.ensures.closed refl)) c.print_stored.ensures
+
+pub returns-in_default : goal.returns-in_default
+returns-in_default g c =
+    fails_ends c.args.tensors c.args.bound _ _ _ _ _ c.check.result
+    (c.check.ensures.found ∙ ap (verdict (looked_up c.args.tensors)) c.dim.ensures) c.in_default.not-Closed c.say_verdict.ensures
