@@ -303,6 +303,40 @@ fn tables_of_texts(rt: HostRuntime) -> Result<(), Fail> {
     Ok(())
 }
 
+/// Two copies of the structure with one index, after a change of basis.
+const TWO_INDICES: &[u8] =
+    b"airy 1\ndim 2\nA 0 0 0 1\nA 0 0 1 1\nA 0 1 1 1\nA 1 0 0 1\nA 1 0 1 1\nA 1 1 1 2\nB 0 0 0 1\nB 0 1 0 1\nB 1 0 0 1\nB 1 1 1 1\nC 0 0 0 1\nC 1 0 0 2\nC 1 0 1 -1\nC 1 1 1 1\nD 0 1/8\nD 1 1/4\nend\n";
+
+/// Its table up to 2.
+const TWO_INDICES_TABLE: &[u8] =
+    b"0,3 [0 0 0] 1\n0,3 [0 0 1] 1\n0,3 [0 1 1] 1\n0,3 [1 1 1] 2\n1,1 [0] 1/8\n1,1 [1] 1/4\n0,4 [0 0 0 0] 3\n0,4 [0 0 0 1] 3\n0,4 [0 0 1 1] 3\n0,4 [0 1 1 1] 3\n0,4 [1 1 1 1] 6\n1,2 [0 0] 5/8\n1,2 [0 1] 5/8\n1,2 [1 1] 5/4\n";
+
+#[test]
+fn a_table_of_two_indices(rt: HostRuntime) -> Result<(), Fail> {
+    let alloc = rt.alloc();
+    assert!(rt;
+        answers(
+            &rt,
+            alloc,
+            &["table", "-", "2"],
+            TWO_INDICES,
+            0,
+            TWO_INDICES_TABLE
+        )?
+    );
+    assert!(rt;
+        answers(
+            &rt,
+            alloc,
+            &["relations", "2", "-"],
+            TWO_INDICES,
+            0,
+            b"closed\n"
+        )?
+    );
+    Ok(())
+}
+
 #[test]
 fn refused_texts(rt: HostRuntime) -> Result<(), Fail> {
     let alloc = rt.alloc();

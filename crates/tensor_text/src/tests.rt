@@ -1,28 +1,10 @@
-ghost use Rattle.std.specs.Prelude.{Some, drop, vec_len, ◌≤◌};
-
 use crate::{LineKind, TextErr, read_tensors, read_value, write_tensors};
-use airy_io::{Failed, MemSink, MemSource, Source, SteadySource};
+use airy_io::{Failed, MemSink, MemSource, SlowSource, SteadySource};
 use sparse_tensor::{Shape, Tensors};
 use std::alloc::{AllocError, Global};
 use std::test::Fail;
 
 const ONES: &[u8] = b"airy 1\ndim 1\nA 0 0 0 1\nB 0 0 0 1\nC 0 0 0 1\nD 0 1/8\nend\n";
-
-/// A source in memory that gives one byte by each read.
-#[derive(Drop)]
-struct SlowSource {
-    inner: SteadySource,
-}
-
-impl Source for SlowSource {
-    ghost left = { λ s. Some (drop s.inner.at s.inner.bytes.items) };
-
-    ghost faults = { λ _. 0 };
-
-    fn read(&mut self, into: &mut [u8]) -> Result<usize, Failed> {
-        self.inner.read(&mut into[..1])
-    }
-}
 
 fn steady(alloc: Global, text: &[u8]) -> Result<SteadySource, AllocError> {
     Ok(SteadySource {
@@ -50,7 +32,8 @@ fn room(alloc: Global, fail_at: Vec<u32>) -> Result<MemSink, AllocError> {
 fn ones_are_read_byte_by_byte_and_written_again(rt: HostRuntime) -> Result<(), Fail> {
     let alloc = rt.alloc();
     let mut slow = SlowSource {
-        inner: steady(alloc, ONES)?,
+        bytes: Vec::from_slice(alloc, ONES)?,
+        at: 0,
     };
     let tensors = read_tensors(alloc, &mut slow).map_err(|_| "ones")?;
     assert_eq!(rt; tensors.dim(), 1);
