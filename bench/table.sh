@@ -1,0 +1,65 @@
+#!/bin/bash
+# Builds the proved plans, tables and checks of every pivot and the same in plain Rust, runs the two programs in turns, and
+# prints the best time of each part of a job, in milliseconds, and their ratio. The first argument is the number of turns, the
+# others are jobs: a structure and a bound, as wk-12; dense-6 is a plan alone.
+set -euo pipefail
+turns=${1:-5}
+[ $# -eq 0 ] || shift
+[ $# -gt 0 ] || set -- wk-12 wk-16 dense-6
+here=$(cd "$(dirname "$0")" && pwd)
+work=$(mktemp -d)
+trap 'rm -rf "$work"' EXIT
+
+tar -C "$here/.." --exclude=out -cf - crates crates.txt | tar -C "$work" -xf -
+mkdir -p "$work/crates/table_bench/src" "$work/crates/table_bench/specs" "$work/crates/table_bench/proofs"
+touch "$work/crates/table_bench/specs/Lib.antt" "$work/crates/table_bench/proofs/Lib.antt"
+cp "$here/table_main.rt.txt" "$work/crates/table_bench/src/main.rt"
+below=$(awk -F: '/^(constraint_check|named_families):/ { print $1, $2 }' "$work/crates.txt" | tr -s ' ' '\n' | sort -u | tr '\n' ' ')
+echo "table_bench: $below" >> "$work/crates.txt"
+
+(cd "$work/crates/table_bench" && rt run > "$work/first.txt" 2> "$work/build.txt") || { cat "$work/build.txt" >&2; exit 1; }
+rustc -O "$here/plain/table.rs" -o "$work/plain"
+
+for _ in $(seq "$turns"); do
+    for job in "$@"; do
+        "$work/crates/table_bench/out/table_bench" "${job%-*}" "${job#*-}" | sed "s/^/$job proved /"
+        "$work/plain" "${job%-*}" "${job#*-}" | sed "s/^/$job plain /"
+    done
+done > "$work/lines.txt"
+
+awk '
+    { job = $1; side = $2; name = $3; sub(/^[^ ]+ [^ ]+ [^ ]+ /, "") }
+    !(job in seen) { seen[job] = 1; order[++jobs] = job }
+    name ~ /^time-/ {
+        key = side " " job " " substr(name, 6)
+        if (!(key in best) || $0 + 0 < best[key]) best[key] = $0 + 0
+        next
+    }
+    name ~ /^count-/ { next }
+    { told[side " " job " " name] = $0; lines[job " " name] = 1 }
+    function row(job, part, proved, plain) {
+        printf "%-10s %-12s %12.3f %12.3f %7.2f\n", job, part, proved / 1e6, plain / 1e6, proved / plain
+    }
+    END {
+        for (line in lines) {
+            proved = told["proved " line]
+            plain = told["plain " line]
+            if (proved != plain) {
+                print "the two programs differ at " line ": " proved " and " plain
+                bad = 1
+            }
+        }
+        if (bad) exit 1
+        printf "%-10s %-12s %12s %12s %7s\n", "job", "part", "proved ms", "plain ms", "ratio"
+        for (i = 1; i <= jobs; i++) {
+            job = order[i]
+            row(job, "plan", best["proved " job " plan"], best["plain " job " plan"])
+            if (!("plain " job " fill" in best)) continue
+            row(job, "fill", best["proved " job " fill"], best["plain " job " fill"])
+            row(job, "check", best["proved " job " check"], best["plain " job " check"])
+            proved = best["proved " job " fill"] + best["proved " job " check"]
+            plain = best["plain " job " fill"] + best["plain " job " check"]
+            row(job, "fill+check", proved, plain)
+        }
+    }
+' "$work/lines.txt"
