@@ -5,7 +5,7 @@
 set -euo pipefail
 turns=${1:-5}
 [ $# -eq 0 ] || shift
-[ $# -gt 0 ] || set -- wk-12 wk-16 dense-6
+[ $# -gt 0 ] || set -- wk-12 wk-16 wk-20 wk-24 bgw-24 wp-11 dense-6
 here=$(cd "$(dirname "$0")" && pwd)
 work=$(mktemp -d)
 trap 'rm -rf "$work"' EXIT

@@ -99,7 +99,15 @@ fn word_product(x: u64, b: u64, y: u64, d: u64) -> (u128, u128) {
     (left as u128 * right as u128, begin as u128 * end as u128)
 }
 
-#[inline(never)]
+fn dyadic_word_product(x: u64, i: u32, y: u64, j: u32) -> (u128, u128) {
+    let left = shared_twos(x as u128, j);
+    let right = shared_twos(y as u128, i);
+    (
+        (x >> left) as u128 * (y >> right) as u128,
+        1 << ((i - right) + (j - left)),
+    )
+}
+
 fn dyadic_product(x: u128, i: u32, y: u128, j: u32) -> Option<(u128, u128)> {
     let left = shared_twos(x, j);
     let right = shared_twos(y, i);
@@ -123,7 +131,8 @@ fn long_product(x: u128, b: u128, y: u128, d: u128) -> Option<(u128, u128)> {
     Some((num, den))
 }
 
-fn product_sizes(x: u128, b: u128, y: u128, d: u128) -> Option<(u128, u128)> {
+#[inline(never)]
+fn general_product(x: u128, b: u128, y: u128, d: u128) -> Option<(u128, u128)> {
     if (x | b | y | d) >> 63 == 0 {
         return Some(word_product(x as u64, b as u64, y as u64, d as u64));
     }
@@ -133,6 +142,17 @@ fn product_sizes(x: u128, b: u128, y: u128, d: u128) -> Option<(u128, u128)> {
         return dyadic_product(x, i, y, j);
     }
     long_product(x, b, y, d)
+}
+
+fn product_sizes(x: u128, b: u128, y: u128, d: u128) -> Option<(u128, u128)> {
+    if (x | b | y | d) >> 63 == 0 {
+        let i = (b as u64).trailing_zeros();
+        let j = (d as u64).trailing_zeros();
+        if b as u64 >> i == 1 && d as u64 >> j == 1 {
+            return Some(dyadic_word_product(x as u64, i, y as u64, j));
+        }
+    }
+    general_product(x, b, y, d)
 }
 
 // ---- sums

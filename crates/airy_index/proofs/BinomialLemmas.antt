@@ -7,7 +7,7 @@ use Rattle.airy_math.specs.Sums.{binomial}
 use Rattle.airy_math.proofs.SplitLemmas.{binomial-over}
 
 -- k + 1 times the next is n - k times this one
-binomial-step : (n k : ℕ) → binomial n (suc k) * suc k ≡ binomial n k * (n - k)
+pub binomial-step : (n k : ℕ) → binomial n (suc k) * suc k ≡ binomial n k * (n - k)
 unfolding binomial
 binomial-step zero zero = refl
 binomial-step zero (suc k) = omega arith

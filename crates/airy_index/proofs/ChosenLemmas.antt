@@ -30,7 +30,7 @@ built_none all h = record {
   small = let h : 2 ^ whole_length (counts_of all) ≤ 2 ^ 25 = pow-le-pow_right (omega arith) h.short in omega arith;
 }
 
-small_more : (w b x y n : ℕ) → w * 2 ^ (x + y) ≤ n → b ≤ 2 ^ x → (w * b) * 2 ^ y ≤ n
+pub small_more : (w b x y n : ℕ) → w * 2 ^ (x + y) ≤ n → b ≤ 2 ^ x → (w * b) * 2 ^ y ≤ n
 small_more w b x y n h k =
     let first : w * b ≤ w * 2 ^ x = mul-le-mul (let self : w ≤ w = omega arith in self) k in
     let both : (w * b) * 2 ^ y ≤ (w * 2 ^ x) * 2 ^ y = mul-le-mul first (let self : 2 ^ y ≤ 2 ^ y = omega arith in self) in

@@ -7,3 +7,4 @@ pub mod SumLoop
 pub mod ClosedLaw
 pub mod JumpLemmas
 pub mod SameVerdictLaw
+pub mod NoDifferenceLaw

@@ -2,6 +2,7 @@ pub mod Sides
 pub mod Places
 pub mod Verdicts
 pub mod SameVerdict
+pub mod NoDifference
 pub mod Numbers
 pub mod Walks
 pub mod Steps

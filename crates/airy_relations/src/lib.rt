@@ -9,7 +9,7 @@ mod steps;
 mod verdict;
 
 pub use checks::check;
-pub use laws::same_verdict;
+pub use laws::{no_difference, same_verdict};
 pub use verdict::{Rel, Verdict};
 
 #[cfg(test)]

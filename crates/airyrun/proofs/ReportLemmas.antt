@@ -1,9 +1,9 @@
 -- What is printed of stored tensors is what is printed of those that they stand for.
 use Rattle.std.proofs.Common.{subst, ◌≡◌, ◌⊎◌, inl, inr, ℕ, refl, sym, ap, ◌∙◌, false, IsTrue, cond, true, Bool}
-use Rattle.std.specs.Prelude.{List, map, Option, Some}
+use Rattle.std.specs.Prelude.{List, map, Option, Some, None}
 use Rattle.airy_math.specs.Keys.{Key}
 use Rattle.airy_math.specs.declared.Shape.{Shape}
-use Rattle.airy_math.specs.Tensors.{Tensors}
+use Rattle.airy_math.specs.Tensors.{Tensors, SameEntries}
 use Rattle.amp_terms.specs.declared.Outcome.{Outcome}
 use Rattle.amp_terms.specs.Outcomes.{outcomes}
 use Rattle.airy_math.specs.Planned.{planned}
@@ -13,35 +13,46 @@ use Rattle.airy_math.specs.Ranks.{PlanLaw}
 use Rattle.airyrun.proofs.LimitLemmas.{limit_same}
 use Rattle.series_law.specs.SameTables.{SameTablesLaw}
 use Rattle.sparse_tensor.specs.Entries.{Entries, looked_up}
-use Rattle.named_families.specs.Families.{StandsFor}
 use Rattle.amp_plan.specs.Plans.{Planning, keys_of, tensors_of}
 use Rattle.amp_plan.specs.Limits.{Limit, Within, PassesBound, PassesCells, PassesNeeds, limit, limit_of, Tells}
 use Rattle.amp_plan.specs.declared.plan.PlanCause.{PlanCause}
 use Rattle.amp_plan.specs.declared.plan.PlanCause.TheVariants as cause
-use Rattle.amp_terms.specs.Tables.{full_table, first_without}
+use Rattle.amp_terms.specs.Tables.{full_table}
+use Rattle.series_law.specs.Check.{Verdict, check}
+use Rattle.constraint_check.specs.Ends.{outcomes_of}
 use Rattle.airyrun.specs.Report.{Report, Ends, EndsOrWants, out_of_memory, bound_refused}
-use Rattle.airyrun.specs.Tables.{printed, cells_report, plan_report, cause_report, is_bound, table_report, stored_report, text_structure, has_letter}
+use Rattle.named_families.specs.Families.{Names}
+use Rattle.named_families.specs.declared.petersson.MakeErr.{MakeErr}
+use Rattle.named_families.specs.declared.petersson.MakeErr.TheVariants as make
+use Rattle.airyrun.specs.Tables.{checked_report, verdict_of, cells_report, plan_report, cause_report, is_bound, making_over, making_report, making_error, table_report, stored_report, text_structure, has_letter, ArePlanned}
 
-same_parts : (l m : Bool) (s t : Shape) (ks js : List Key) (os ps : List Outcome) → l ≡ m → s ≡ t → ks ≡ js → os ≡ ps
-    → printed l s ks (map Some os) (first_without (map Some os)) ≡ printed m t js (map Some ps) (first_without (map Some ps))
-same_parts l m s t ks js os ps a b c d = cc
+same_parts : (l m : Bool) (s t : Shape) (ks js : List Key) (os ps : List Outcome) (v w : Verdict) → l ≡ m → s ≡ t → ks ≡ js → os ≡ ps → v ≡ w
+    → checked_report l s ks (map Some os) v ≡ checked_report m t js (map Some ps) w
+same_parts l m s t ks js os ps v w a b c d e = cc
 
-pub same_cells : (t : Entries) (T : Tensors) (X : ℕ) → BelowDimLaw → SameTablesLaw → StandsFor t T → cells_report t.letter (looked_up t) X ≡ cells_report false T X
+-- the check of the table of stored tensors is that of the tensors that they stand for
+same_verdicts : (t : Entries) (T : Tensors) (X : ℕ) → SameTablesLaw → SameEntries (looked_up t) T → verdict_of (looked_up t) X ≡ verdict_of T X
+unfolding verdict_of
+same_verdicts t T X tables same =
+    let tables = tables (looked_up t) T same X in
+    tables.check (outcomes (looked_up t) X) ∙ ap (check T X) tables.outcomes
+
+same_cells : (t : Entries) (T : Tensors) (letter : Bool) (X : ℕ) → BelowDimLaw → SameTablesLaw → SameEntries (looked_up t) T → t.letter ≡ letter → cells_report t.letter (looked_up t) X ≡ cells_report letter T X
 unfolding cells_report full_table
-same_cells t T X below tables stands =
-    same_parts t.letter false (looked_up t).shape T.shape (planned (looked_up t) X) (planned T X) (outcomes (looked_up t) X) (outcomes T X)
-    stands.letter stands.entries.shape ((below (looked_up t) T stands.entries).plan X) (tables (looked_up t) T stands.entries X).outcomes
+same_cells t T letter X below tables same stored =
+    same_parts t.letter letter (looked_up t).shape T.shape (planned (looked_up t) X) (planned T X) (outcomes (looked_up t) X) (outcomes T X) (verdict_of (looked_up t) X) (verdict_of T X)
+    stored same.shape ((below (looked_up t) T same).plan X) (tables (looked_up t) T same X).outcomes (same_verdicts t T X tables same)
 
-same_limit : (t : Entries) (T : Tensors) (X : ℕ) → PlanLaw → BelowDimLaw → StandsFor t T → limit (looked_up t) X ≡ limit T X
-same_limit t T X once below stands = limit_same (looked_up t) T X once (below (looked_up t) T stands.entries)
+same_limit : (t : Entries) (T : Tensors) (X : ℕ) → PlanLaw → BelowDimLaw → SameEntries (looked_up t) T → limit (looked_up t) X ≡ limit T X
+same_limit t T X once below same = limit_same (looked_up t) T X once (below (looked_up t) T same)
 
--- what is printed of a table, by its least rank without a Value
-pub cells_at : (p : Planning) (table : List (Option Outcome)) (o : Option ℕ) → table ≡ full_table (tensors_of p) p.bound → o ≡ first_without table
-    → cells_report p.tensors.letter (tensors_of p) p.bound ≡ printed p.tensors.letter p.tensors.shape (keys_of p) table o
-unfolding cells_report keys_of tensors_of looked_up
-cells_at p table o whole least =
-    ap (λ cells. printed p.tensors.letter p.tensors.shape (planned (tensors_of p) p.bound) cells (first_without cells)) (sym whole)
-    ∙ ap (printed p.tensors.letter p.tensors.shape (planned (tensors_of p) p.bound) table) (sym least)
+-- what is printed of a table, by what its check finds
+pub cells_at : (p : Planning) (table : List (Option Outcome)) (v : Verdict) → table ≡ full_table (tensors_of p) p.bound → check (tensors_of p) p.bound (outcomes_of p) ≡ v
+    → cells_report p.tensors.letter (tensors_of p) p.bound ≡ checked_report p.tensors.letter p.tensors.shape (keys_of p) table v
+unfolding cells_report verdict_of outcomes_of keys_of tensors_of looked_up
+cells_at p table v whole found =
+    ap (λ cells. checked_report p.tensors.letter p.tensors.shape (planned (tensors_of p) p.bound) cells (check (tensors_of p) p.bound (outcomes (tensors_of p) p.bound))) (sym whole)
+    ∙ ap (checked_report p.tensors.letter p.tensors.shape (planned (tensors_of p) p.bound) table) found
 
 -- a cause tells the report, or memory is wanting
 pub told_cause : (p : Planning) (why : PlanCause) (cells : Report) → Tells p why → (cause_report why ≡ plan_report p.bound (limit_of p) cells) ⊎ (cause_report why ≡ out_of_memory)
@@ -55,26 +66,29 @@ pub refused_bound : (s : Structure) (X : ℕ) → is_bound X ≡ false → table
 unfolding table_report
 refused_bound s X e = rw e refl
 
--- within the bound: the plan's report, and what its cells give
-pub planned_report : (s : Structure) (X : ℕ) → is_bound X ≡ true → table_report s X ≡ plan_report X (limit (planned_tensors s X) X) (cells_report (has_letter s) (planned_tensors s X) X)
-unfolding table_report
-planned_report s X e = rw e refl
+-- within the bound, and where its tensors are made: the plan's report, and what its cells give
+pub planned_report : (s : Structure) (X : ℕ) → is_bound X ≡ true → making_over s X ≡ None → table_report s X ≡ plan_report X (limit (planned_tensors s X) X) (cells_report (has_letter s) (planned_tensors s X) X)
+unfolding table_report making_report
+planned_report s X e m = rw (e, m) refl
 
--- the report of stored tensors that stand for a structure's
-pub stood_report : (s : Structure) (t : Entries) (X : ℕ) → PlanLaw → BelowDimLaw → SameTablesLaw → is_bound X ≡ true → StandsFor t (planned_tensors s X) → false ≡ has_letter s
-    → table_report s X ≡ stored_report t X
+-- the report of stored tensors that are a structure's
+pub stood_report : (s : Structure) (t : Entries) (X : ℕ) → PlanLaw → BelowDimLaw → SameTablesLaw → is_bound X ≡ true → making_over s X ≡ None → ArePlanned t s X → table_report s X ≡ stored_report t X
 unfolding stored_report
-stood_report s t X once below tables bounded stands plain =
-    planned_report s X bounded ∙ sym (joined (same_limit t (planned_tensors s X) X once below stands) (same_cells t (planned_tensors s X) X below tables stands ∙ ap (λ l. cells_report l (planned_tensors s X) X) plain))
+stood_report s t X once below tables bounded made stored =
+    planned_report s X bounded made ∙ sym (joined (same_limit t (planned_tensors s X) X once below stored.entries) (same_cells t (planned_tensors s X) (has_letter s) X below tables stored.entries stored.letter))
   where
     joined : {l m : Limit} {r s : Report} → l ≡ m → r ≡ s → plan_report X l r ≡ plan_report X m s
     joined a b = cc
 
 -- the report of a text's own tensors
 pub text_stored : (t : Entries) (X : ℕ) → is_bound X ≡ true → table_report (text_structure t) X ≡ stored_report t X
-unfolding stored_report text_structure planned_tensors has_letter
-text_stored t X bounded = planned_report (text_structure t) X bounded ∙ by t.letter refl
+unfolding stored_report text_structure planned_tensors has_letter making_over
+text_stored t X bounded = planned_report (text_structure t) X bounded (made t.letter) ∙ by t.letter refl
   where
+    made : (b : Bool) → making_over (cond b (Lettered (looked_up t)) (Text (looked_up t))) X ≡ None
+    made true = refl
+    made false = refl
+
     by : (b : Bool) → t.letter ≡ b → plan_report X (limit (planned_tensors (cond b (Lettered (looked_up t)) (Text (looked_up t))) X) X) (cells_report (has_letter (cond b (Lettered (looked_up t)) (Text (looked_up t)))) (planned_tensors (cond b (Lettered (looked_up t)) (Text (looked_up t))) X) X)
         ≡ plan_report X (limit (looked_up t) X) (cells_report t.letter (looked_up t) X)
     by true e = ap (λ l. plan_report X (limit (looked_up t) X) (cells_report l (looked_up t) X)) (sym e)
@@ -95,3 +109,13 @@ report_of_cause t X why tells = told_cause (record { tensors = t; bound = X }) w
 pub ends_by : (report other : Report) (before now : ℕ) (old new : Option (List ℕ)) (result : ℕ) → (other ≡ report) ⊎ (other ≡ out_of_memory) → Ends other before now old new result → EndsOrWants report before now old new result
 ends_by report other before now old new result (inl e) h = inl (subst (λ r. Ends r before now old new result) e h)
 ends_by report other before now old new result (inr e) h = inr (subst (λ r. Ends r before now old new result) e h)
+
+-- where a structure's tensors aren't made: the report of a number that leaves the range, or want of memory
+pub error_ends : (s : Structure) (X : ℕ) (why : MakeErr) (before now : ℕ) (old new : Option (List ℕ)) (result : ℕ) → is_bound X ≡ true → Names why (making_over s X)
+    → Ends (making_error why) before now old new result → EndsOrWants (table_report s X) before now old new result
+unfolding making_error Names making_report table_report
+error_ends s X why before now old new result bounded named h = ends_by (table_report s X) (making_error why) before now old new result (said why named) h
+  where
+    said : (why : MakeErr) → Names why (making_over s X) → (making_error why ≡ table_report s X) ⊎ (making_error why ≡ out_of_memory)
+    said (make.Over k) named = inl (rw (bounded, named) refl)
+    said make.NoMemory named = inr refl

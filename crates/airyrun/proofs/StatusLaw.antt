@@ -1,20 +1,26 @@
 -- The status of a run and its cause, both ways.
-use Rattle.std.proofs.Common.{◌≡◌, ◌≢◌, ◌⊎◌, inl, inr, ℕ, arith, refl, sym, ap, ◌∙◌, subst}
-use Rattle.std.specs.Prelude.{Option, Some, None, Bool, true, false, cond, List}
-use Rattle.std.specs.Io.KnownBytes.{Appends}
+use Rattle.std.proofs.Common.{◌≡◌, ◌≢◌, ◌⊎◌, inl, inr, ℕ, ◌≤◌, ◌<◌, ◌++◌, [], arith, refl, sym, ap, ◌∙◌, subst, length, append-nil, IsTrue}
+use Rattle.std.specs.Prelude.{Option, Some, None, Bool, true, false, cond, List, nat_le, min}
+use Rattle.std.specs.Io.KnownBytes.{Appends, Consumes, IsAtEnd}
+use Rattle.airy_io.specs.Causes.{Rose}
 use Rattle.airy_math.specs.Tensors.{Tensors}
 use Rattle.airy_math.specs.Planned.{planned}
-use Rattle.airy_math.specs.Jobs as jobs
+use Rattle.airy_math.specs.Jobs.{Structure, planned_tensors}
 use Rattle.amp_plan.specs.Limits.{Limit, Within, PassesBound, PassesCells, PassesNeeds, limit}
-use Rattle.amp_terms.specs.Tables.{full_table, first_without}
+use Rattle.amp_terms.specs.Tables.{full_table}
+use Rattle.series_law.specs.Check as check
 use Rattle.sparse_tensor.specs.Entries.{Entries}
-use Rattle.airyrun.specs.Words.{Reading, Wk, Text, Table, Probe, Relations, Refused, reading_of}
+use Rattle.tensor_text.specs.Grammar.{TextReading, Read}
+use Rattle.tensor_text.specs.Grammar as grammar
+use Rattle.tensor_text.specs.Answers.{IsWhole}
+use Rattle.airyrun.specs.Words.{Reading, Named, Text, Table, Probe, Relations, Refused, reading_of}
 use Rattle.airyrun.specs.Report.{Report, word_refused, bound_refused, out_of_memory}
-use Rattle.airyrun.specs.Tables.{has_letter, is_bound, printed, plan_report, cells_report, rows_text, table_report}
+use Rattle.airyrun.specs.Tables.{has_letter, is_bound, structure_of, making_over, making_report, checked_report, verdict_of, plan_report, cells_report, table_report}
 use Rattle.airyrun.specs.Texts.{read_fault, text_too_long, line_refused}
-use Rattle.airyrun.specs.Run.{Run, Answers, Leads, LeadsToTable, LeadsFromText, failed, wanting, long, refused, read, LeadsWithBound, beyond, within}
-use Rattle.airyrun.specs.Laws.{AsksForTable, Gives, tensors_up_to, limit_of, blank, whole_table, HasCauses, HasStatuses, WordsAreRefused, CausesLaw, CompletenessLaw}
-use Rattle.airyrun.proofs.RunLemmas.{IsOther, other_wk, other_probe, other_closed_table, other_found, other_text_relations}
+use Rattle.airyrun.specs.Run.{Run, Answers, Leads, LeadsToTable, LeadsToRelations, LeadsToClosedTable, LeadsToProbe, LeadsFromText, failed, wanting, long, refused, read, LeadsWithBound, beyond, within, AsksForNoText}
+use Rattle.airyrun.specs.Laws.{of_reading, of_text, closed_table, probed_table, checked_relations, meant, Gives, TakesMemory, HasText, HasCauses, CausesLaw, CompletenessLaw, IsMade, whole_table, Step, TableStepsLaw}
+use Rattle.airyrun.specs.Laws as steps
+use Rattle.airyrun.proofs.RunLemmas.{IsOther, other_table, other_family, other_probe, other_closed_table, other_family_relations, other_text_relations}
 
 -- what led to the status and the bytes
 pub record Told (run : Run) : Type 0 where
@@ -48,132 +54,174 @@ other_bound : (X : ℕ) (next : Entries → Report → Type 0) (left left' : Opt
 other_bound X next left left' faults faults' report other (beyond outside same kept e) h = omega (arith, status_of e)
 other_bound X next left left' faults faults' report other (within bounded leads) h = other_text next left left' faults faults' report other leads h
 
-refused_words : (run : Run) → Answers run → WordsAreRefused run
-refused_words run answers = record {
-  cause = λ e. let t = told_by run answers (not_nine 2 run.status e (λ k. omega arith)) in cause (reading_of run.words) refl t.report t.leads (sym t.gives.0 ∙ e);
-  status = λ n place e. let t = told_by run answers n in status place (reading_of run.words) refl t.report t.leads t.gives e;
-}
+refused_word : (run : Run) → Answers run → run.status ≡ 2 → (place : ℕ) × (reading_of run.words ≡ Refused place)
+refused_word run answers e = let t = told_by run answers (not_nine 2 run.status e (λ k. omega arith)) in cause (reading_of run.words) refl t.report t.leads (sym t.gives.0 ∙ e)
   where
     cause : (r : Reading) → reading_of run.words ≡ r → (report : Report) → Leads r run report → report.status ≡ 2 → (place : ℕ) × (reading_of run.words ≡ Refused place)
     cause (Refused place) e report leads h = (place, e)
-    cause (Table Wk X) e report leads h = absurd ((other_wk X report leads).0 h)
+    cause (Table (Named family) X) e report leads h = absurd ((other_family family X report leads).0 h)
     cause (Table Text X) e report leads h = absurd (other_bound X _ _ _ _ _ report (other_closed_table X) leads h)
     cause (Probe X) e report leads h = absurd (other_bound X _ _ _ _ _ report (other_probe X) leads h)
-    cause (Relations N Wk) e report leads h = absurd ((other_found _ report leads).0 h)
+    cause (Relations N (Named family)) e report leads h = absurd ((other_family_relations family N report leads).0 h)
     cause (Relations N Text) e report leads h = absurd (other_text _ _ _ _ _ report (other_text_relations N) leads h)
 
-    status : (place : ℕ) (r : Reading) → reading_of run.words ≡ r → (report : Report) → Leads r run report → Gives run report → reading_of run.words ≡ Refused place → Gives run (word_refused place)
-    status place (Refused place') e report leads gives a = let same : Refused place' ≡ Refused place = sym e ∙ a in let p : place' ≡ place = cc in subst (λ q. Gives run (word_refused q)) p (subst (Gives run) leads gives)
-    status place (Table kind X) e report leads gives a = let clash : Table kind X ≡ Refused place = sym e ∙ a in cc
-    status place (Probe X) e report leads gives a = let clash : Probe X ≡ Refused place = sym e ∙ a in cc
-    status place (Relations N kind) e report leads gives a = let clash : Relations N kind ≡ Refused place = sym e ∙ a in cc
+-- ---- the report that is meant
 
--- ---- the table of Witten and Kontsevich
+-- how a report stands to what is meant: it is that; or the source failed; or memory is wanting, where it is taken
+data Stands (reading : Reading) (run : Run) (want report : Report) : Type 0 where
+  is_meant : report ≡ want → Stands reading run want report
+  at_fault : report.status ≡ 8 → Rose run.read_faults_before run.read_faults_after → Stands reading run want report
+  is_wanting : TakesMemory reading → report ≡ out_of_memory → Stands reading run want report
 
--- the steps that its report comes from
-data Step (X : ℕ) (report : Report) : Type 0 where
-  outside : is_bound X ≡ false → report ≡ bound_refused X → Step X report
-  limited : is_bound X ≡ true → limit_of X ≢ Within → report.status ≡ 5 → Step X report
-  blocked : is_bound X ≡ true → limit_of X ≡ Within → (r : ℕ) → blank X ≡ Some r → report.status ≡ 6 → Step X report
-  whole : is_bound X ≡ true → limit_of X ≡ Within → blank X ≡ None → report ≡ record { status = 0; bytes = whole_table X } → Step X report
+-- a text that was read to its end is the source's
+ended : (text source : List ℕ) (left left' : Option (List ℕ)) → left ≡ Some source → Consumes left left' text → IsAtEnd left' → text ≡ source
+ended text source None left' e c a = cc
+ended text source (Some xs) None e c a = absurd c
+ended text source (Some xs) (Some ys) e c a = let s : xs ≡ source = cc in sym (append-nil text) ∙ ap (λ l. text ++ l) (sym a) ∙ sym c ∙ s
 
-step_of : (X : ℕ) → Step X (table_report jobs.Wk X)
-unfolding table_report cells_report printed plan_report blank whole_table has_letter
-step_of X = by (is_bound X) refl (limit T X) refl (first_without (full_table T X)) refl
+-- one that was read in part is no longer than the source's
+no_longer : (text source : List ℕ) (left left' : Option (List ℕ)) → left ≡ Some source → Consumes left left' text → length text ≤ length source
+no_longer text source None left' e c = cc
+no_longer text source (Some xs) None e c = absurd c
+no_longer text source (Some xs) (Some ys) e c =
+    let s : xs ≡ source = cc in
+    let l : length source ≡ length (text ++ ys) = ap length (sym s ∙ c) in
+    omega (arith, l, Rattle.std.proofs.Common.length-append text ys)
+
+of_short : (next : Entries → Report) (text : List ℕ) → length text ≤ 1048576 → of_text next text ≡ of_reading next (grammar.reading_of text)
+unfolding of_text
+of_short next text h = let e : nat_le (length text) 1048576 ≡ true = grind arith in rw e refl
+
+of_long : (next : Entries → Report) (text : List ℕ) → 1048576 < length text → of_text next text ≡ text_too_long
+unfolding of_text
+of_long next text h = let e : nat_le (length text) 1048576 ≡ false = grind arith in rw e refl
+
+-- what a text's entries lead to, told by a report
+abbrev IsNext : (Entries → Report → Type 0) → (Entries → Report) → Type 0
+IsNext leads next = (t : Entries) (r : Report) → leads t r → (r ≡ next t) ⊎ (r ≡ out_of_memory)
+
+text_stands : (reading : Reading) (run : Run) (leads : Entries → Report → Type 0) (next : Entries → Report) (source : List ℕ) (report : Report) → run.left_before ≡ Some source → TakesMemory reading → IsNext leads next
+    → LeadsFromText leads run.left_before run.left_after run.read_faults_before run.read_faults_after report → Stands reading run (of_text next source) report
+unfolding read_fault of_reading
+text_stands reading run leads next source report has takes is_next (failed rose e) = at_fault (status_of e) rose
+text_stands reading run leads next source report has takes is_next (wanting kept e) = is_wanting takes e
+text_stands reading run leads next source report has takes is_next (long kept text consumed len e) =
+    is_meant (e ∙ sym (of_long next source (omega (arith, len, no_longer text source run.left_before run.left_after has consumed))))
+text_stands reading run leads next source report has takes is_next (refused kept text n kind consumed whole e) =
+    let is = ended text source run.left_before run.left_after has consumed whole.ended in
+    is_meant (e ∙ sym (of_short next source (subst (λ l. length l ≤ 1048576) is whole.short) ∙ ap (λ l. of_reading next (grammar.reading_of l)) (sym is) ∙ ap (of_reading next) whole.given))
+text_stands reading run leads next source report has takes is_next (read kept text t consumed whole l) = by (is_next t report l)
   where
-    T : Tensors
-    T = tensors_up_to X
+    is : text ≡ source
+    is = ended text source run.left_before run.left_after has consumed whole.ended
 
-    cells : Option ℕ → Report
-    cells o = printed false T.shape (planned T X) (full_table T X) o
+    of : of_text next source ≡ next t
+    of = of_short next source (subst (λ l. length l ≤ 1048576) is whole.short) ∙ ap (λ l. of_reading next (grammar.reading_of l)) (sym is) ∙ ap (of_reading next) whole.given
 
-    by : (b : Bool) → is_bound X ≡ b → (l : Limit) → limit T X ≡ l → (o : Option ℕ) → first_without (full_table T X) ≡ o → Step X (cond b (plan_report X l (cells o)) (bound_refused X))
-    by false e l f o g = outside e refl
-    by true e Within f None g = whole e f g refl
-    by true e Within f (Some r) g = blocked e f r g refl
-    by true e PassesBound f o g = limited e (λ u. let clash : PassesBound ≡ Within = sym f ∙ u in cc) refl
-    by true e (PassesCells level) f o g = limited e (λ u. let clash : PassesCells level ≡ Within = sym f ∙ u in cc) refl
-    by true e (PassesNeeds key) f o g = limited e (λ u. let clash : PassesNeeds key ≡ Within = sym f ∙ u in cc) refl
+    by : (report ≡ next t) ⊎ (report ≡ out_of_memory) → Stands reading run (of_text next source) report
+    by (inl e) = is_meant (e ∙ sym of)
+    by (inr e) = is_wanting takes e
 
--- how a run of the table came to its status
-data Way (run : Run) (X : ℕ) : Type 0 where
-  table : (report : Report) → run.status ≡ report.status → Step X report → Gives run report → report ≡ table_report jobs.Wk X → Way run X
-  wants : is_bound X ≡ true → run.status ≡ 10 → Gives run out_of_memory → Way run X
-
-way_of : (run : Run) → Answers run → (X : ℕ) → AsksForTable run X → run.status ≢ 9 → Way run X
-way_of run answers X asks n = let t = told_by run answers n in by t.report (subst (λ r. Leads r run t.report) asks t.leads) t.gives
+bound_stands : (reading : Reading) (run : Run) (X : ℕ) (leads : Entries → Report → Type 0) (next : Entries → Report) (text : List ℕ) (report : Report)
+    → (is_bound X ≡ false) ⊎ (run.left_before ≡ Some text) → (is_bound X ≡ true → TakesMemory reading) → IsNext leads next
+    → LeadsWithBound X leads run.left_before run.left_after run.read_faults_before run.read_faults_after report → Stands reading run (cond (is_bound X) (of_text next text) (bound_refused X)) report
+bound_stands reading run X leads next text report has takes is_next (beyond out left kept e) = is_meant (e ∙ rw out refl)
+bound_stands reading run X leads next text report has takes is_next (within bounded l) = by has
   where
-    by : (report : Report) → LeadsToTable jobs.Wk X (table_report jobs.Wk X) report → Gives run report → Way run X
-    by report leads gives = elim leads.said [
-      | inl said ↦ table report gives.0 (subst (Step X) (sym said) (step_of X)) gives said
-      | inr short ↦ let g : Gives run out_of_memory = subst (Gives run) short.1 gives in wants short.0 g.0 g
-    ]
+    by : (is_bound X ≡ false) ⊎ (run.left_before ≡ Some text) → Stands reading run (cond (is_bound X) (of_text next text) (bound_refused X)) report
+    by (inl out) = let clash : true ≡ false = sym bounded ∙ out in cc
+    by (inr told) = rw bounded (text_stands reading run leads next text report told (takes bounded) is_next l)
 
-causes_of : (run : Run) → Answers run → (X : ℕ) → AsksForTable run X → HasCauses run X
-causes_of run answers X asks = record {
-  of_table = λ e. table_cause e (way_of run answers X asks (not_nine 0 run.status e (λ k. omega arith)));
-  of_size = λ e. size_cause e (way_of run answers X asks (not_nine 5 run.status e (λ k. omega arith)));
-  of_overflow = λ e. overflow_cause e (way_of run answers X asks (not_nine 6 run.status e (λ k. omega arith)));
-  of_sink = answers.write_cause;
-  of_memory = λ e. memory_cause e (way_of run answers X asks (not_nine 10 run.status e (λ k. omega arith)));
-}
+said_next : (s : Structure) (X : ℕ) (want report : Report) → LeadsToTable s X want report → (report ≡ want) ⊎ (report ≡ out_of_memory)
+said_next s X want report leads = elim leads.said [ inl e ↦ inl e | inr e ↦ inr e.1 ]
+
+stands_by : (run : Run) (text : List ℕ) (r : Reading) → (AsksForNoText r) ⊎ (run.left_before ≡ Some text) → (report : Report) → Leads r run report → Stands r run (meant r text) report
+unfolding meant closed_table probed_table checked_relations
+stands_by run text (Refused place) has report leads = is_meant leads
+stands_by run text (Table (Named family) X) has report leads = elim leads.said [ inl e ↦ is_meant e | inr e ↦ is_wanting e.0 e.1 ]
+stands_by run text (Table Text X) has report leads = bound_stands (Table Text X) run X _ (closed_table X) text report has (λ b. b) (λ t r l. said_next _ X _ r l.table) leads
+stands_by run text (Probe X) has report leads = bound_stands (Probe X) run X _ (probed_table X) text report has (λ b. b) (λ t r l. said_next _ X _ r l) leads
+stands_by run text (Relations N (Named family)) has report leads = elim leads [ inl e ↦ is_meant e | inr e ↦ is_wanting tt e ]
+stands_by run text (Relations N Text) has report leads = by has
   where
-    table_cause : run.status ≡ 0 → Way run X → (is_bound X ≡ true) × (limit_of X ≡ Within) × (blank X ≡ None)
-    table_cause e (table report s (outside b w) g t) = absurd (omega (arith, status_of w))
-    table_cause e (table report s (limited b l w) g t) = absurd (omega arith)
-    table_cause e (table report s (blocked b l r f w) g t) = absurd (omega arith)
-    table_cause e (table report s (whole b l f w) g t) = (b, l, f)
-    table_cause e (wants b s g) = absurd (omega arith)
+    by : ⊥ ⊎ (run.left_before ≡ Some text) → Stands (Relations N Text) run (meant (Relations N Text) text) report
+    by (inl none) = absurd none
+    by (inr told) = text_stands (Relations N Text) run _ (checked_relations N) text report told tt (λ t r l. l) leads
 
-    size_cause : run.status ≡ 5 → Way run X → (is_bound X ≡ false) ⊎ (limit_of X ≢ Within)
-    size_cause e (table report s (outside b w) g t) = inl b
-    size_cause e (table report s (limited b l w) g t) = inr l
-    size_cause e (table report s (blocked b l r f w) g t) = absurd (omega arith)
-    size_cause e (table report s (whole b l f w) g t) = absurd (omega (arith, status_of w))
-    size_cause e (wants b s g) = absurd (omega arith)
+-- memory is wanting only where it is taken
+bound_takes : (X : ℕ) (next : Entries → Report → Type 0) (left left' : Option (List ℕ)) (faults faults' : ℕ) (report : Report) → LeadsWithBound X next left left' faults faults' report
+    → report.status ≡ 10 → is_bound X ≡ true
+bound_takes X next left left' faults faults' report (beyond out left_same kept e') e = absurd (omega (arith, status_of e', e))
+bound_takes X next left left' faults faults' report (within bounded l) e = bounded
 
-    overflow_cause : run.status ≡ 6 → Way run X → (r : ℕ) × (limit_of X ≡ Within) × (blank X ≡ Some r)
-    overflow_cause e (table report s (outside b w) g t) = absurd (omega (arith, status_of w))
-    overflow_cause e (table report s (limited b l w) g t) = absurd (omega arith)
-    overflow_cause e (table report s (blocked b l r f w) g t) = (r, l, f)
-    overflow_cause e (table report s (whole b l f w) g t) = absurd (omega (arith, status_of w))
-    overflow_cause e (wants b s g) = absurd (omega arith)
-
-    memory_cause : run.status ≡ 10 → Way run X → is_bound X ≡ true
-    memory_cause e (table report s (outside b w) g t) = absurd (omega (arith, status_of w))
-    memory_cause e (table report s (limited b l w) g t) = absurd (omega arith)
-    memory_cause e (table report s (blocked b l r f w) g t) = absurd (omega arith)
-    memory_cause e (table report s (whole b l f w) g t) = absurd (omega (arith, status_of w))
-    memory_cause e (wants b s g) = b
-
-refused_report : (X : ℕ) → is_bound X ≡ false → table_report jobs.Wk X ≡ bound_refused X
-unfolding table_report
-refused_report X b = rw b refl
-
-statuses_of : (run : Run) → Answers run → (X : ℕ) → AsksForTable run X → HasStatuses run X
-statuses_of run answers X asks = record {
-  bound = λ n b. bound (way_of run answers X asks n) b;
-  table = λ n m. full (way_of run answers X asks n) m;
-}
+wanting_takes : (run : Run) (r : Reading) (report : Report) → Leads r run report → report.status ≡ 10 → TakesMemory r
+wanting_takes run (Refused place) report leads e = absurd (omega (arith, status_of leads, e))
+wanting_takes run (Table (Named family) X) report leads e = by leads.said
   where
-    bound : Way run X → is_bound X ≡ false → Gives run (bound_refused X)
-    bound (table report s step g t) b = subst (Gives run) (t ∙ refused_report X b) g
-    bound (wants b' s g) b = let clash : true ≡ false = sym b' ∙ b in cc
+    by : (report ≡ table_report (structure_of family) X) ⊎ ((is_bound X ≡ true) × (report ≡ out_of_memory)) → is_bound X ≡ true
+    by (inl t) = absurd ((other_table (structure_of family) X).2 (sym (status_of t) ∙ e))
+    by (inr w) = w.0
+wanting_takes run (Table Text X) report leads e = bound_takes X _ _ _ _ _ report leads e
+wanting_takes run (Probe X) report leads e = bound_takes X _ _ _ _ _ report leads e
+wanting_takes run (Relations N kind) report leads e = tt
 
-    full : Way run X → run.status ≢ 10 → Gives run (table_report jobs.Wk X)
-    full (table report s step g t) m = subst (Gives run) t g
-    full (wants b s g) m = absurd (m s)
+module _ (run : Run) (answers : Answers run) where
+  in_reading : (text : List ℕ) → HasText run text → run.status ≢ 9 → (report : Report) × Gives run report × Stands (reading_of run.words) run (meant (reading_of run.words) text) report
+  in_reading text has n = let t = told_by run answers n in (t.report, t.gives, stands_by run text (reading_of run.words) has t.report t.leads)
+
+  job_cause : (text : List ℕ) → HasText run text → run.status ≢ 8 → run.status ≢ 9 → run.status ≢ 10 → Gives run (meant (reading_of run.words) text)
+  job_cause text has eight nine ten = let t = in_reading text has nine in by t.0 t.1 t.2
+    where
+      by : (report : Report) → Gives run report → Stands (reading_of run.words) run (meant (reading_of run.words) text) report → Gives run (meant (reading_of run.words) text)
+      by report gives (is_meant e) = subst (Gives run) e gives
+      by report gives (at_fault e rose) = absurd (eight (gives.0 ∙ e))
+      by report gives (is_wanting takes e) = absurd (ten (gives.0 ∙ status_of e))
+
+  memory_cause : run.status ≡ 10 → TakesMemory (reading_of run.words)
+  memory_cause e = let t = told_by run answers (not_nine 10 run.status e (λ k. omega arith)) in wanting_takes run (reading_of run.words) t.report t.leads (sym t.gives.0 ∙ e)
+
+  completed : (Rose run.read_faults_before run.read_faults_after → ⊥) → (Rose run.write_faults_before run.write_faults_after → ⊥) → (text : List ℕ) → HasText run text
+      → Gives run (meant (reading_of run.words) text) ⊎ (TakesMemory (reading_of run.words) × Gives run out_of_memory)
+  completed source sink text has = let t = in_reading text has (λ e. sink (answers.write_cause e)) in by t.0 t.1 t.2
+    where
+      by : (report : Report) → Gives run report → Stands (reading_of run.words) run (meant (reading_of run.words) text) report
+          → Gives run (meant (reading_of run.words) text) ⊎ (TakesMemory (reading_of run.words) × Gives run out_of_memory)
+      by report gives (is_meant e) = inl (subst (Gives run) e gives)
+      by report gives (at_fault e rose) = absurd (source rose)
+      by report gives (is_wanting takes e) = inr (takes, subst (Gives run) e gives)
 
 pub causes : CausesLaw
-causes run answers = (refused_words run answers, λ X asks. (causes_of run answers X asks, statuses_of run answers X asks))
-
-whole_report : (X : ℕ) → is_bound X ≡ true → limit_of X ≡ Within → blank X ≡ None → table_report jobs.Wk X ≡ record { status = 0; bytes = whole_table X }
-unfolding table_report plan_report cells_report printed blank whole_table has_letter
-whole_report X b l f = rw (b, l, f) refl
+causes run answers = record {
+  of_source = answers.read_cause;
+  of_sink = answers.write_cause;
+  of_memory = memory_cause run answers;
+  of_word = refused_word run answers;
+  of_job = job_cause run answers;
+}
 
 pub complete : CompletenessLaw
-complete run answers kept X asks b l f = by (way_of run answers X asks (λ e. kept (answers.write_cause e)))
+complete run answers source sink text has = completed run answers source sink text has
+
+-- ---- the steps of a table
+
+pub table_steps : TableStepsLaw
+unfolding table_report making_report cells_report plan_report checked_report whole_table
+table_steps s X = by (is_bound X) refl (making_over s X) refl (limit T X) refl (verdict_of T X) refl
   where
-    by : Way run X → ((run.status ≡ 0) × Appends run.taken_before run.taken_after (whole_table X)) ⊎ Gives run out_of_memory
-    by (table report s step g t) = inl (subst (Gives run) (t ∙ whole_report X b l f) g)
-    by (wants b' s g) = inr g
+    T : Tensors
+    T = planned_tensors s X
+
+    cells : check.Verdict → Report
+    cells v = checked_report (has_letter s) T.shape (planned T X) (full_table T X) v
+
+    by : (b : Bool) → is_bound X ≡ b → (o : Option ℕ) → making_over s X ≡ o → (l : Limit) → limit T X ≡ l → (v : check.Verdict) → verdict_of T X ≡ v
+        → Step s X (cond b (making_report o (plan_report X l (cells v))) (bound_refused X))
+    by false e o m l f v g = steps.outside e refl
+    by true e (Some k) m l f v g = steps.unmade e k m refl
+    by true e None m Within f check.Solution g = steps.whole (record { bounded = e; made = m; within = f }) g refl
+    by true e None m Within f (check.NotValue r) g = steps.blank (record { bounded = e; made = m; within = f }) r g refl
+    by true e None m Within f (check.Overflow key i) g = steps.over (record { bounded = e; made = m; within = f }) key i g refl
+    by true e None m Within f (check.Orders key i a j b) g = steps.orders (record { bounded = e; made = m; within = f }) key i a j b g refl
+    by true e None m PassesBound f v g = steps.limited e m (λ u. let clash : PassesBound ≡ Within = sym f ∙ u in cc) refl
+    by true e None m (PassesCells level) f v g = steps.limited e m (λ u. let clash : PassesCells level ≡ Within = sym f ∙ u in cc) refl
+    by true e None m (PassesNeeds key) f v g = steps.limited e m (λ u. let clash : PassesNeeds key ≡ Within = sym f ∙ u in cc) refl

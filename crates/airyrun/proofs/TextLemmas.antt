@@ -3,7 +3,6 @@ use Rattle.std.proofs.Common.{◌≡◌, ◌≢◌, ◌⊎◌, inl, inr, ℕ, re
 use Rattle.std.specs.Prelude.{Option, List, Bool, Ok, Err, IsTrue, cond}
 use Rattle.airy_math.specs.Jobs.{Structure, Text, Lettered, IsSound}
 use Rattle.airy_math.specs.Relations.{Close}
-use Rattle.series_law.specs.Jobs.{JobUniquenessLaw}
 use Rattle.sparse_tensor.specs.Entries.{Entries, looked_up}
 use Rattle.sparse_tensor.specs.Grades.{AreSound}
 use Rattle.tensor_text.specs.Answers.{Reads, HasReadCause}
@@ -20,7 +19,7 @@ use Rattle.airyrun.specs.Headline.{Headline}
 use Rattle.airyrun.specs.Run.{LeadsFromText, failed, wanting, long, refused, read, LeadsWithBound, beyond, within, LeadsToTable, LeadsToProbe, LeadsToClosedTable, LeadsToRelations}
 use Rattle.airyrun.specs.Ends.{EndsBy, EndsOfText, EndsWithBound}
 use Rattle.airyrun.proofs.ReportLemmas.{text_stored}
-use Rattle.airyrun.proofs.HeadlineLemmas.{headline_of}
+use Rattle.airyrun.proofs.HeadlineLemmas.{JobLaws, headline_of, unsolvable_of}
 
 pub read_ends : (next : Entries → Report → Type 0) (left left' : Option (List ℕ)) (f f' w w' : ℕ) (o o' : Option (List ℕ)) (status : ℕ) (t : Entries)
     → Reads left left' (Ok t) → HasReadCause {T = Entries} f f' (Ok t) → EndsBy (next t) w w' o o' status → EndsOfText next left left' f f' w w' o o' status
@@ -47,22 +46,22 @@ text_sound t sound = by t.letter
     by false = (sound.symmetric, sound.graded)
 
 -- the table of a text's tensors
-pub probe_ends : (t : Entries) (X : ℕ) (w w' : ℕ) (o o' : Option (List ℕ)) (status : ℕ) → JobUniquenessLaw → AreSound t → is_bound X ≡ true
+pub probe_ends : (t : Entries) (X : ℕ) (w w' : ℕ) (o o' : Option (List ℕ)) (status : ℕ) → JobLaws → AreSound t → is_bound X ≡ true
     → EndsOrWants (stored_report t X) w w' o o' status → EndsBy (LeadsToProbe X t) w w' o o' status
-probe_ends t X w w' o o' status unique sound bounded (inl e) =
-    (table_report (text_structure t) X, record { said = inl refl; headline = headline_of unique (text_structure t) X (text_sound t sound) }, subst (λ r. Ends r w w' o o' status) (sym (text_stored t X bounded)) e)
-probe_ends t X w w' o o' status unique sound bounded (inr e) = (out_of_memory, record { said = inr (bounded, refl); headline = λ h. absurd (omega arith) }, e)
+probe_ends t X w w' o o' status laws sound bounded (inl e) =
+    (table_report (text_structure t) X, record { said = inl refl; headline = headline_of laws (text_structure t) X (text_sound t sound); unsolvable = unsolvable_of laws (text_structure t) X (text_sound t sound) }, subst (λ r. Ends r w w' o o' status) (sym (text_stored t X bounded)) e)
+probe_ends t X w w' o o' status laws sound bounded (inr e) = (out_of_memory, record { said = inr (bounded, refl); headline = λ h. absurd (omega arith); unsolvable = λ h. absurd (omega arith) }, e)
 
 -- its table, where the relations hold
-pub closed_ends : (t : Entries) (X : ℕ) (w w' : ℕ) (o o' : Option (List ℕ)) (status : ℕ) → JobUniquenessLaw → AreSound t → is_bound X ≡ true → Closed ≡ verdict (looked_up t) t.dim → Close (looked_up t) t.dim
+pub closed_ends : (t : Entries) (X : ℕ) (w w' : ℕ) (o o' : Option (List ℕ)) (status : ℕ) → JobLaws → AreSound t → is_bound X ≡ true → Closed ≡ verdict (looked_up t) t.dim → Close (looked_up t) t.dim
     → EndsOrWants (stored_report t X) w w' o o' status → EndsBy (LeadsToClosedTable t X) w w' o o' status
 unfolding relations_report
-closed_ends t X w w' o o' status unique sound bounded found close (inl e) =
+closed_ends t X w w' o o' status laws sound bounded found close (inl e) =
     let whole = table_report (text_structure t) X in
     let same : whole ≡ relations_report (verdict (looked_up t) t.dim) whole = ap (λ v. relations_report v whole) found in
-    (whole, record { table = record { said = inl same; headline = headline_of unique (text_structure t) X (text_sound t sound) }; accepted = λ h. close }, subst (λ r. Ends r w w' o o' status) (sym (text_stored t X bounded)) e)
-closed_ends t X w w' o o' status unique sound bounded found close (inr e) =
-    (out_of_memory, record { table = record { said = inr (bounded, refl); headline = λ h. absurd (omega arith) }; accepted = λ h. absurd (omega arith) }, e)
+    (whole, record { table = record { said = inl same; headline = headline_of laws (text_structure t) X (text_sound t sound); unsolvable = unsolvable_of laws (text_structure t) X (text_sound t sound) }; accepted = λ h. close }, subst (λ r. Ends r w w' o o' status) (sym (text_stored t X bounded)) e)
+closed_ends t X w w' o o' status laws sound bounded found close (inr e) =
+    (out_of_memory, record { table = record { said = inr (bounded, refl); headline = λ h. absurd (omega arith); unsolvable = λ h. absurd (omega arith) }; accepted = λ h. absurd (omega arith) }, e)
 
 -- and where they fail first
 pub fails_ends : (t : Entries) (X : ℕ) (w w' : ℕ) (o o' : Option (List ℕ)) (status : ℕ) (v : Verdict) → v ≡ verdict (looked_up t) t.dim → (v ≡ Closed → ⊥)
@@ -71,10 +70,10 @@ unfolding relations_report
 fails_ends t X w w' o o' status Closed found fails e = absurd (fails refl)
 fails_ends t X w w' o o' status (Differs rel place left right) found fails e =
     let same : relations_report (Differs rel place left right) closed ≡ relations_report (verdict (looked_up t) t.dim) (table_report (text_structure t) X) = ap (λ v. relations_report v (table_report (text_structure t) X)) found in
-    (relations_report (Differs rel place left right) closed, record { table = record { said = inl same; headline = λ h. absurd (omega arith) }; accepted = λ h. absurd (omega arith) }, e)
+    (relations_report (Differs rel place left right) closed, record { table = record { said = inl same; headline = λ h. absurd (omega arith); unsolvable = λ h. absurd (omega arith) }; accepted = λ h. absurd (omega arith) }, e)
 fails_ends t X w w' o o' status (Over rel place) found fails e =
     let same : relations_report (Over rel place) closed ≡ relations_report (verdict (looked_up t) t.dim) (table_report (text_structure t) X) = ap (λ v. relations_report v (table_report (text_structure t) X)) found in
-    (relations_report (Over rel place) closed, record { table = record { said = inl same; headline = λ h. absurd (omega arith) }; accepted = λ h. absurd (omega arith) }, e)
+    (relations_report (Over rel place) closed, record { table = record { said = inl same; headline = λ h. absurd (omega arith); unsolvable = λ h. absurd (omega arith) }; accepted = λ h. absurd (omega arith) }, e)
 
 -- a check of the relations
 pub relations_ends : (t : Entries) (N places : ℕ) (w w' : ℕ) (o o' : Option (List ℕ)) (status : ℕ) → places ≡ N → Ends (relations_report (verdict (looked_up t) places) closed) w w' o o' status

@@ -1,5 +1,5 @@
 -- What is printed of a table, and why one isn't printed.
-use Rattle.std.specs.Prelude.{ℕ, ◌⊎◌, IsTrue, Bool, true, false, cond, nat_le, ◌&&◌, List, [], ◌∷◌, ◌++◌, codes, decimal, Option, Some, None}
+use Rattle.std.specs.Prelude.{ℕ, suc, ◌≡◌, ◌⊎◌, IsTrue, Bool, true, false, cond, nat_le, ◌&&◌, List, [], ◌∷◌, ◌++◌, codes, decimal, Option, Some, None}
 use Rattle.airy_math.specs.Rational.{ℚ}
 use Rattle.airy_math.specs.Keys.{Key}
 use Rattle.airy_math.specs.declared.Shape.{Shape}
@@ -7,15 +7,25 @@ use Rattle.airy_math.specs.Tensors.{Tensors}
 use Rattle.airy_math.specs.Planned.{planned}
 use Rattle.airy_math.specs.Ranks.{key_at}
 use Rattle.airy_math.specs.Cuts.{letter_of}
+use Rattle.airy_math.specs.declared.Family.{Family}
+use Rattle.airy_math.specs.declared.Family.TheVariants as family
+use Rattle.airy_math.specs.Families.{top_wk}
+use Rattle.airy_math.specs.Tensors.{SameEntries}
 use Rattle.airy_math.specs.Jobs.{Structure, Wk, Bgw, Wp, Bulk, Text, Lettered, planned_tensors}
 use Rattle.airy_index.specs.Text.{key_text}
 use Rattle.sparse_tensor.specs.Entries.{Entries, looked_up}
+use Rattle.named_families.specs.Steps.{wp_refusal}
+use Rattle.named_families.specs.declared.petersson.MakeErr.{MakeErr}
+use Rattle.named_families.specs.declared.petersson.MakeErr.TheVariants as make
 use Rattle.amp_plan.specs.Limits.{Limit, Within, PassesBound, PassesCells, PassesNeeds, limit}
 use Rattle.amp_plan.specs.declared.plan.PlanCause.{PlanCause}
 use Rattle.amp_plan.specs.declared.plan.PlanCause.TheVariants as cause
 use Rattle.amp_terms.specs.declared.Outcome.{Outcome}
-use Rattle.amp_terms.specs.Tables.{full_table, first_without, value_of_cell}
+use Rattle.amp_terms.specs.Outcomes.{outcomes}
+use Rattle.amp_terms.specs.Tables.{full_table, value_of_cell}
 use Rattle.amp_terms.specs.Text.{value_text}
+use Rattle.frac128.specs.Fraction.{fraction_text}
+use Rattle.series_law.specs.Check.{Verdict, Solution, NotValue, Overflow, Orders, check}
 use Rattle.airyrun.specs.Report.{Report, Ends, refusal, bound_refused, out_of_memory}
 
 -- the line of a key with its Value: `KEY VALUE`
@@ -29,13 +39,28 @@ rows_text letter shape [] cells = []
 rows_text letter shape (key ∷ keys) [] = []
 rows_text letter shape (key ∷ keys) (cell ∷ cells) = row_text letter shape key (value_of_cell cell) ++ rows_text letter shape keys cells
 
--- the table, or the first key without a Value
-unfoldable pub printed : Bool → Shape → List Key → List (Option Outcome) → Option ℕ → Report
-printed letter shape keys cells None = record { status = 0; bytes = rows_text letter shape keys cells }
-printed letter shape keys cells (Some r) = record { status = 6; bytes = refusal (codes "over at ") (key_text (key_at keys r)) }
+-- a pivot of a key: `KEY first I`
+unfoldable pub pivot_text : Key → ℕ → List ℕ
+pivot_text key i = key_text key ++ codes " first " ++ decimal i
+
+-- two of its pivots with their numbers: `KEY first I gives V1, first J gives V2`
+unfoldable pub orders_text : Key → ℕ → ℚ → ℕ → ℚ → List ℕ
+orders_text key i a j b = pivot_text key i ++ codes " gives " ++ fraction_text a ++ codes ", first " ++ decimal j ++ codes " gives " ++ fraction_text b
+
+-- What the check of every pivot of a table leads to: the whole table; or the first key without a Value; or the first pivot whose sum
+-- leaves the range; or the first two index orders with differing numbers.
+unfoldable pub checked_report : Bool → Shape → List Key → List (Option Outcome) → Verdict → Report
+checked_report letter shape keys cells Solution = record { status = 0; bytes = rows_text letter shape keys cells }
+checked_report letter shape keys cells (NotValue r) = record { status = 6; bytes = refusal (codes "over at ") (key_text (key_at keys r)) }
+checked_report letter shape keys cells (Overflow key i) = record { status = 6; bytes = refusal (codes "over at ") (pivot_text key i) }
+checked_report letter shape keys cells (Orders key i a j b) = record { status = 7; bytes = refusal [] (orders_text key i a j b) }
+
+-- what the check finds in the table of T up to X
+unfoldable pub verdict_of : Tensors → ℕ → Verdict
+verdict_of T X = check T X (outcomes T X)
 
 unfoldable pub cells_report : Bool → Tensors → ℕ → Report
-cells_report letter T X = printed letter T.shape (planned T X) (full_table T X) (first_without (full_table T X))
+cells_report letter T X = checked_report letter T.shape (planned T X) (full_table T X) (verdict_of T X)
 
 -- a plan beyond its limits, or what its cells give
 unfoldable pub plan_report : ℕ → Limit → Report → Report
@@ -64,9 +89,31 @@ greatest_bound = 24
 unfoldable pub is_bound : ℕ → Bool
 is_bound X = nat_le 1 X && nat_le X greatest_bound
 
+-- the structure of a family
+unfoldable pub structure_of : Family → Structure
+structure_of family.Wk = Wk
+structure_of family.Bgw = Bgw
+structure_of family.Wp = Wp
+
+-- the number of Weil and Petersson at whose making a step leaves the range, where the table's tensors need one
+unfoldable pub making_over : Structure → ℕ → Option ℕ
+making_over Wk X = None
+making_over Bgw X = None
+making_over Wp X = wp_refusal (suc (top_wk X)) (top_wk X)
+making_over (Bulk T) X = None
+making_over (Text T) X = None
+making_over (Lettered T) X = None
+
+-- tensors whose numbers leave the range, or what comes next where none does
+unfoldable pub making_report : Option ℕ → Report → Report
+making_report None next = next
+making_report (Some k) next = record { status = 6; bytes = refusal (codes "over in c ") (decimal k) }
+
 -- what the table of a structure up to X writes and answers, where memory isn't wanting
 unfoldable pub table_report : Structure → ℕ → Report
-table_report s X = cond (is_bound X) (plan_report X (limit (planned_tensors s X) X) (cells_report (has_letter s) (planned_tensors s X) X)) (bound_refused X)
+table_report s X =
+    cond (is_bound X) (making_report (making_over s X) (plan_report X (limit (planned_tensors s X) X) (cells_report (has_letter s) (planned_tensors s X) X)))
+    (bound_refused X)
 
 -- ---- what the code's parts write
 
@@ -77,6 +124,11 @@ cause_report (cause.Cells level) = record { status = 5; bytes = refusal (codes "
 cause_report (cause.Edges key) = record { status = 5; bytes = refusal (codes "needs at ") (key_text key) }
 cause_report cause.NoMemory = out_of_memory
 
+-- why a structure's tensors aren't made
+unfoldable pub making_error : MakeErr → Report
+making_error (make.Over k) = making_report (Some k) out_of_memory
+making_error make.NoMemory = out_of_memory
+
 -- a run of the table of a structure: it ends with that report, or, at a bound within its limits, memory is wanting
 abbrev pub EndsTable : Structure → ℕ → ℕ → ℕ → Option (List ℕ) → Option (List ℕ) → ℕ → Type 0
 EndsTable s X before now old new result = Ends (table_report s X) before now old new result ⊎ (IsTrue (is_bound X) × Ends out_of_memory before now old new result)
@@ -84,3 +136,8 @@ EndsTable s X before now old new result = Ends (table_report s X) before now old
 -- what a plan of stored tensors up to X leads to
 unfoldable pub stored_report : Entries → ℕ → Report
 stored_report t X = plan_report X (limit (looked_up t) X) (cells_report t.letter (looked_up t) X)
+
+-- The stored tensors are those of a structure's plan up to X, as far as their indices go.
+pub record ArePlanned (t : Entries) (s : Structure) (X : ℕ) : Type 0 where
+  pub entries : SameEntries (looked_up t) (planned_tensors s X)
+  pub letter : t.letter ≡ has_letter s

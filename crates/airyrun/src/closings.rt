@@ -1,32 +1,16 @@
 ghost use Rattle.std.specs.Prelude.{◌≡◌, ◌<◌, ◌≤◌, ◌+◌, ◌++◌, ◌*◌, length, take};
-ghost use Rattle.airy_math.specs.Named as named;
 ghost use Rattle.sparse_tensor.specs.Entries.{looked_up};
 ghost use Rattle.airy_relations.specs.Verdicts.{verdict};
 ghost use Rattle.frac128.specs.Fraction.{fraction_text};
-ghost use Rattle.airyrun.specs.Asked.{IsPlaces};
-ghost use Rattle.airyrun.specs.Report.{Ends, EndsOrWants, Report};
+ghost use Rattle.airyrun.specs.Report.{Ends, Report};
 ghost use Rattle.airyrun.specs.Closings.{relations_report, closed, rel_text, free_indices, place_text};
 
-use crate::report::{refuse, refuse_memory, say};
+use crate::report::{refuse, say};
 use airy_index::{put, put_indices};
 use airy_io::Sink;
-use airy_relations::{Rel, Verdict, check, same_verdict};
+use airy_relations::{Rel, Verdict, check};
 use frac128::Frac;
-use named_families::wk_cut;
 use sparse_tensor::Tensors;
-use std::alloc::Global;
-
-/// Does `relations N wk`.
-pub(crate) fn relations_of_wk<W: Sink>(alloc: Global, places: u8, out: &mut W) -> u8
-    requires { IsPlaces places }
-    ensures { EndsOrWants (relations_report (verdict (named.wk (2 * places)) places) closed) (W.faults out.old) (W.faults out.new) (W.taken out.old) (W.taken out.new) result }
-{
-    same_verdict();
-    match wk_cut(alloc, 2 * places + 1) {
-        Ok(tensors) => say_relations(&tensors, places, out),
-        Err(_) => refuse_memory(out),
-    }
-}
 
 /// Checks the relations in the places below a number, and says what is found.
 pub(crate) fn say_relations<W: Sink>(tensors: &Tensors, places: u8, out: &mut W) -> u8
@@ -80,7 +64,7 @@ fn say_overflow<W: Sink>(rel: Rel, place: &[u8; 4], out: &mut W) -> u8
 }
 
 /// Writes a fraction from a place on, and answers the place behind it.
-fn put_fraction(into: &mut [u8], at: usize, v: Frac) -> usize
+pub(crate) fn put_fraction(into: &mut [u8], at: usize, v: Frac) -> usize
     requires { at + 84 ≤ length into.old }
     ensures short { result ≤ at + 84 }
     ensures text { take result into.new ≡ take at into.old ++ fraction_text v }

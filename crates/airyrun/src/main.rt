@@ -2,8 +2,12 @@
 #![tactic(auto)]
 
 mod closings;
+mod families;
+#[cfg(test)]
+mod family_tests;
 mod gate;
 mod laws;
+mod orders;
 mod report;
 mod tables;
 #[cfg(test)]
@@ -14,7 +18,7 @@ mod words;
 
 use airy_io::{StdSink, StdSource};
 pub use gate::{Gate, OpenGate, StopAfter};
-pub use laws::{completeness, exact_causes};
+pub use laws::{completeness, exact_causes, table_steps};
 use std::process::ExitCode;
 use std::{env, io};
 use top::run;

@@ -1,55 +1,26 @@
 ghost use Rattle.std.specs.Prelude.{◌≡◌, ◌≢◌, ◌<◌, ◌≤◌, length, Some, OnOk, OnErr, IsTrue};
 ghost use Rattle.std.specs.Io.KnownBytes.{Appends};
 ghost use Rattle.airy_io.specs.Causes.{HasCause, AppendsPrefix};
-ghost use Rattle.airy_math.specs.Jobs as jobs;
 ghost use Rattle.amp_plan.specs.Plans.{keys_of, key_at, tensors_of};
 ghost use Rattle.amp_terms.specs.Tables.{value_at};
 ghost use Rattle.airyrun.specs.Report.{Ends, EndsOrWants, Report};
-ghost use Rattle.airyrun.specs.Tables.{row_text, rows_text, cells_report, cause_report, table_report, stored_report, is_bound, EndsTable};
+ghost use Rattle.airyrun.specs.Tables.{row_text, rows_text, cells_report, cause_report, stored_report, is_bound};
 
+use crate::orders::{refuse_orders, refuse_pivot};
 use crate::report::{refuse_bound, refuse_key, refuse_memory, refuse_number, say};
 use airy_index::put;
 use airy_io::{Failed, Sink, write_all};
-use airy_math::{below_dim, planned_once};
 use amp_plan::{Plan, PlanCause};
 use amp_terms::{Table, one_thread, write_value};
+use constraint_check::{CheckEnd, check_table};
 use frac128::Frac;
-use named_families::wk;
-use series_law::same_tables;
 use sparse_tensor::Tensors;
 use std::alloc::Global;
 
 /// The greatest bound of a table.
 const GREATEST_BOUND: u32 = 24;
 
-/// Does `table wk X`.
-pub(crate) fn table_of_wk<W: Sink>(alloc: Global, bound: u32, out: &mut W) -> u8
-    ensures { EndsTable jobs.Wk bound (W.faults out.old) (W.faults out.new) (W.taken out.old) (W.taken out.new) result }
-{
-    if is_bound(bound) {
-        plan_of_wk(alloc, bound as u8, out)
-    } else {
-        refuse_bound(out, bound)
-    }
-}
-
-/// Makes the tensors of Witten and Kontsevich, plans, fills and prints their table.
-fn plan_of_wk<W: Sink>(alloc: Global, bound: u8, out: &mut W) -> u8
-    requires within { IsTrue (is_bound bound) }
-    requires some { 0 < bound }
-    requires most { bound ≤ 24 }
-    ensures { EndsOrWants (table_report jobs.Wk bound) (W.faults out.old) (W.faults out.new) (W.taken out.old) (W.taken out.new) result }
-{
-    planned_once();
-    below_dim();
-    same_tables();
-    match wk(alloc, bound) {
-        Ok(tensors) => print_stored(alloc, tensors, bound, out),
-        Err(_) => refuse_memory(out),
-    }
-}
-
-/// Plans, fills and prints the table of stored tensors.
+/// Plans, fills, checks and prints the table of stored tensors.
 pub(crate) fn print_stored<W: Sink>(alloc: Global, tensors: Tensors, bound: u8, out: &mut W) -> u8
     ensures { EndsOrWants (stored_report tensors bound) (W.faults out.old) (W.faults out.new) (W.taken out.old) (W.taken out.new) result }
 {
@@ -82,16 +53,25 @@ fn refuse_plan<W: Sink>(out: &mut W, cause: &PlanCause) -> u8
     }
 }
 
-/// Fills the plan's table and prints it, or names the first key without a Value.
+/// Fills the plan's table, checks every pivot, and prints the table; or names the first key without a Value, or the first pivot that
+/// fails.
 fn fill_and_print<W: Sink>(alloc: Global, plan: &Plan, out: &mut W) -> u8
     ensures { EndsOrWants (cells_report plan.now.tensors.letter (tensors_of plan.now) plan.now.bound) (W.faults out.old) (W.faults out.new) (W.taken out.old) (W.taken out.new) result }
 {
     let Ok(table) = one_thread(alloc, plan) else {
         return refuse_memory(out);
     };
-    match table.first_not_value() {
-        Some(rank) => refuse_key(out, 6, b"over at ", &plan.key(rank)),
-        None => print_table(plan, &table, out),
+    match check_table(plan, &table) {
+        CheckEnd::NotValue { key } => refuse_key(out, 6, b"over at ", &key),
+        CheckEnd::Over { key, pivot } => refuse_pivot(out, &key, pivot),
+        CheckEnd::Orders {
+            key,
+            first,
+            v1,
+            second,
+            v2,
+        } => refuse_orders(out, &key, (first, v1), (second, v2)),
+        CheckEnd::Solution => print_table(plan, &table, out),
     }
 }
 

@@ -25,7 +25,7 @@ const ROWS: [&[u8]; 11] = [
     b"2,1 [4] 105/128\n",
 ];
 
-fn words_of(alloc: Global, texts: &[&str]) -> Result<Vec<String>, AllocError> {
+pub(crate) fn words_of(alloc: Global, texts: &[&str]) -> Result<Vec<String>, AllocError> {
     let mut words = Vec::new(alloc);
     for text in texts {
         words.push(String::from_str(alloc, text)?)?;
@@ -43,7 +43,7 @@ fn rows(alloc: Global, count: usize) -> Result<Vec<u8>, AllocError> {
 }
 
 /// A sink of that room that fails at the calls with these numbers.
-fn sink_of(alloc: Global, room: usize, fail_at: &[u32]) -> Result<MemSink, AllocError> {
+pub(crate) fn sink_of(alloc: Global, room: usize, fail_at: &[u32]) -> Result<MemSink, AllocError> {
     Ok(MemSink {
         space: vec![in alloc; 0u8; room]?,
         taken: 0,
@@ -54,7 +54,7 @@ fn sink_of(alloc: Global, room: usize, fail_at: &[u32]) -> Result<MemSink, Alloc
 }
 
 /// Whether a run of the words answers the status and leaves the bytes in the sink.
-fn runs<R: Threads + Sync, G: Gate + Sync>(
+pub(crate) fn runs<R: Threads + Sync, G: Gate + Sync>(
     rt: &R,
     alloc: Global,
     texts: &[&str],
@@ -88,7 +88,7 @@ fn reads<R: Threads + Sync, S: Source>(
 }
 
 /// The same over a text.
-fn answers<R: Threads + Sync>(
+pub(crate) fn answers<R: Threads + Sync>(
     rt: &R,
     alloc: Global,
     texts: &[&str],
@@ -104,7 +104,7 @@ fn answers<R: Threads + Sync>(
 }
 
 /// Whether a run of the words into ample room answers the status and writes the bytes.
-fn writes<R: Threads + Sync>(
+pub(crate) fn writes<R: Threads + Sync>(
     rt: &R,
     alloc: Global,
     texts: &[&str],
@@ -157,7 +157,6 @@ fn refused_words(rt: HostRuntime) -> Result<(), Fail> {
     assert!(rt; writes(&rt, alloc, &[], 2, b"refused: word 1\n")?);
     assert!(rt; writes(&rt, alloc, &["tables", "wk", "1"], 2, b"refused: word 1\n")?);
     assert!(rt; writes(&rt, alloc, &["table"], 2, b"refused: word 2\n")?);
-    assert!(rt; writes(&rt, alloc, &["table", "bgw", "1"], 2, b"refused: word 2\n")?);
     assert!(rt; writes(&rt, alloc, &["table", "xx", "1"], 2, b"refused: word 2\n")?);
     assert!(rt; writes(&rt, alloc, &["table", "wk"], 2, b"refused: word 3\n")?);
     assert!(rt; writes(&rt, alloc, &["table", "wk", ""], 2, b"refused: word 3\n")?);
@@ -415,7 +414,7 @@ fn texts_beyond_a_limit(rt: HostRuntime) -> Result<(), Fail> {
 }
 
 #[test]
-fn relations_checked(rt: HostRuntime) -> Result<(), Fail> {
+fn relations_and_pivots_checked(rt: HostRuntime) -> Result<(), Fail> {
     let alloc = rt.alloc();
     assert!(rt; writes(&rt, alloc, &["relations", "3", "wk"], 0, b"closed\n")?);
     assert!(rt;
@@ -467,6 +466,26 @@ fn relations_checked(rt: HostRuntime) -> Result<(), Fail> {
             over,
             6,
             b"refused: over in D at 0 1\n"
+        )?
+    );
+    assert!(rt;
+        answers(
+            &rt,
+            alloc,
+            &["probe", "2"],
+            over,
+            6,
+            b"refused: over at 1,2 [0 1] first 1\n"
+        )?
+    );
+    assert!(rt;
+        answers(
+            &rt,
+            alloc,
+            &["probe", "3"],
+            a,
+            7,
+            b"refused: 0,3 [0 1 1] first 0 gives 1, first 1 gives 0\n"
         )?
     );
     Ok(())

@@ -15,7 +15,7 @@ use crate::tables::{is_bound, print_stored};
 use airy_index::{put, put_number};
 use airy_io::{Sink, Source};
 use airy_relations::{Verdict, check};
-use series_law::job_uniqueness;
+use series_law::{job_checked, job_uniqueness};
 use sparse_tensor::Tensors;
 use std::alloc::Global;
 use tensor_text::{LineKind, TextErr, read_tensors};
@@ -76,6 +76,7 @@ fn print_text<W: Sink>(alloc: Global, tensors: Tensors, bound: u8, out: &mut W) 
     ensures { EndsBy (LeadsToProbe bound tensors) (W.faults out.old) (W.faults out.new) (W.taken out.old) (W.taken out.new) result }
 {
     job_uniqueness();
+    job_checked();
     tensors.are_sound();
     print_stored(alloc, tensors, bound, out)
 }
@@ -86,6 +87,7 @@ fn print_closed<W: Sink>(alloc: Global, tensors: Tensors, bound: u8, out: &mut W
     ensures { EndsBy (LeadsToClosedTable tensors bound) (W.faults out.old) (W.faults out.new) (W.taken out.old) (W.taken out.new) result }
 {
     job_uniqueness();
+    job_checked();
     tensors.are_sound();
     match check(&tensors, tensors.dim()) {
         Verdict::Closed => print_stored(alloc, tensors, bound, out),

@@ -15,3 +15,11 @@ pub mod MarkLemmas
 pub mod NeedLemmas
 pub mod GraphLemmas
 pub mod NeedsFacts
+pub mod MeasureLemmas
+pub mod ChoiceLemmas
+pub mod ReachLemmas
+pub mod FindLemmas
+pub mod StageLemmas
+pub mod RestLemmas
+pub mod StartLemmas
+mod TestLemmas

@@ -8,3 +8,6 @@ pub mod Ranked
 pub mod Walk
 pub mod Marks
 pub mod Kept
+pub mod Measures
+pub mod Shares
+pub mod Rests

@@ -1,15 +1,19 @@
 //! The plan of a table: the keys that it has, in order, and their ranks.
 #![tactic(auto)]
 
+mod finding;
 mod graph;
 mod letter;
 mod listing;
 mod marker;
+mod measure;
 mod place;
 mod plan;
 mod ranking;
+mod rest;
 mod rows;
 mod search;
+mod share;
 mod walk;
 mod window;
 

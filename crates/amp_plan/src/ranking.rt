@@ -10,6 +10,7 @@ use crate::listing::{Stop, add_level};
 use crate::search::{are_below, place_among};
 use crate::{Place, PlanCause, PlanErr};
 use airy_index::{Covers, Key};
+use key_index::KeyIndex;
 use sparse_tensor::Tensors;
 use std::alloc::Global;
 use std::marker::Model;
@@ -19,7 +20,7 @@ use std::marker::Model;
 pub(crate) struct Ranking {
     tensors: Tensors,
     bound: u8,
-    keys: Vec<Key>,
+    index: KeyIndex,
 }
 
 impl Model for Ranking {
@@ -32,7 +33,7 @@ impl Model for Ranking {
 
     ghost view = { λ r. record { tensors = r.tensors; bound = r.bound } };
 
-    ghost invariant = { λ r. IsRanking (record { tensors = r.tensors; bound = r.bound }) r.keys.items };
+    ghost invariant = { λ r. IsRanking (record { tensors = r.tensors; bound = r.bound }) r.index.keys };
 }
 
 impl Ranking {
@@ -44,11 +45,11 @@ impl Ranking {
         ensures cause { IfErr result (λ e. Tells (record { tensors = t; bound = bound }) e.cause) }
         ensures back { IfErr result (λ e. e.tensors ≡ t) }
     {
-        match planned_keys(alloc, &t, bound) {
-            Ok(keys) => Ok(Ranking {
+        match planned_index(alloc, &t, bound) {
+            Ok(index) => Ok(Ranking {
                 tensors: t,
                 bound,
-                keys,
+                index,
             }),
             Err(cause) => Err(PlanErr { cause, tensors: t }),
         }
@@ -70,14 +71,21 @@ impl Ranking {
         key.is_key();
         airy_math::planned_once();
         airy_math::plan_ascends();
-        Place::At(place_among(self.keys.as_slice(), key))
+        Place::At(place_among(self.index.keys(), key))
     }
 
     /// The keys, in order.
     pub(crate) fn keys(&self) -> &[Key]
         ensures { result.now ≡ keys_of self.now }
     {
-        self.keys.as_slice()
+        self.index.keys()
+    }
+
+    /// The index of the keys.
+    pub(crate) fn index(&self) -> &KeyIndex
+        ensures { result.now.keys ≡ keys_of self.now }
+    {
+        &self.index
     }
 
     /// The key of a rank.
@@ -85,14 +93,14 @@ impl Ranking {
         requires { rank < length (keys_of self.now) }
         ensures { result ≡ key_at self.now rank }
     {
-        self.keys[rank as usize].copy()
+        self.index.keys()[rank as usize].copy()
     }
 
     /// The number of planned keys.
     pub(crate) fn len(&self) -> u32
         ensures { result ≡ length (keys_of self.now) }
     {
-        self.keys.len() as u32
+        self.index.keys().len() as u32
     }
 
     /// The bound on the Euler number.
@@ -133,6 +141,20 @@ impl Ranking {
         ensures few { length (keys_of self.now) ≤ 200000 }
     {
         let _bound = self.bound;
+    }
+}
+
+/// The index of the planned keys up to a bound from 1 to 24.
+fn planned_index(alloc: Global, tensors: &Tensors, bound: u8) -> Result<KeyIndex, PlanCause>
+    requires some { 0 < bound }
+    requires most { bound ≤ 24 }
+    ensures ranking { IfOk result (λ index. IsRanking (record { tensors = tensors.now; bound = bound }) index.keys) }
+    ensures cause { IfErr result (λ cause. Tells (record { tensors = tensors.now; bound = bound }) cause) }
+{
+    let keys = planned_keys(alloc, tensors, bound)?;
+    match KeyIndex::of(alloc, keys) {
+        Ok(index) => Ok(index),
+        Err(_) => Err(PlanCause::NoMemory),
     }
 }
 

@@ -1,7 +1,8 @@
 ghost use Rattle.std.specs.Prelude.{◌<◌, ◌≤◌, length};
-ghost use Rattle.amp_plan.specs.Plans.{keys_of};
+ghost use Rattle.airy_math.specs.Planned.{IsPlanned};
+ghost use Rattle.amp_plan.specs.Plans.{keys_of, tensors_of};
 
-use crate::{Place, Plan, PlanCause, PlanErr};
+use crate::{Place, Plan, PlanCause, PlanErr, TermVisitor, walk_terms};
 use airy_index::{Key, Law, Shape};
 use frac128::Frac;
 use sparse_tensor::Tensors;
@@ -183,5 +184,99 @@ fn a_key_has_its_power_of_the_letter(rt: HostRuntime) -> Result<(), Fail> {
         assert!(rt; plan.letter(&key(1, &[0, 0])?) == power);
         assert!(rt; plan.letter(&key(1, &[2, 2])?) == 0);
     }
+    Ok(())
+}
+
+/// Counts the products that it takes.
+#[derive(Drop)]
+struct Products {
+    count: u64,
+}
+
+impl TermVisitor for Products {
+    ghost State = { Unit };
+
+    ghost state = { λ p. tt };
+
+    ghost step = { λ s t. tt };
+
+    ghost allows = { λ p r. Unit };
+
+    fn alone(&mut self, _: Frac) {}
+
+    fn once(&mut self, _: u8, _: Frac, _: u32) {}
+
+    fn joined(&mut self, _: Option<Frac>, _: u32) {}
+
+    fn twice(&mut self, _: Option<Frac>, _: u64, _: u32, _: u32) {
+        self.count = self.count.wrapping_add(1);
+    }
+}
+
+/// The number of products in the pivot sum of a key.
+fn walked(plan: &Plan, key: &Key, at: usize) -> u64
+    requires planned { IsPlanned (tensors_of plan.now) plan.now.bound key.now }
+    requires at { at < length key.now.idx }
+{
+    let mut products = Products { count: 0 };
+    walk_terms(plan, key, key.idx()[at], &mut products);
+    products.count
+}
+
+/// How many products all keys have at all places.
+fn products_of_all(plan: &Plan) -> u64 {
+    airy_math::planned_once();
+    let mut count = 0u64;
+    for rank in 0..plan.len() {
+        let key = plan.key(rank);
+        for at in 0..key.idx().len() {
+            count = count.wrapping_add(walked(plan, &key, at));
+        }
+    }
+    count
+}
+
+/// Puts the entries of C whose first two indices are i and j.
+fn put_c_with(t: &mut Tensors, i: u8, j: u8) -> Result<(), Fail> {
+    for k in 0..3 {
+        if j <= k {
+            t.put_c(i, j, k, Frac::whole(1)).map_err(|_| "c")?;
+        }
+    }
+    Ok(())
+}
+
+/// Tensors of dim 3 with all entries of C.
+fn with_all_c(tensors: Tensors) -> Result<Tensors, Fail> {
+    let mut tensors = tensors;
+    for i in 0..3 {
+        for j in 0..3 {
+            put_c_with(&mut tensors, i, j)?;
+        }
+    }
+    Ok(tensors)
+}
+
+// The numbers of products are those of a program that tries all splits of all keys.
+#[test]
+fn the_walk_meets_the_products_of_an_exact_shape(rt: HostRuntime) -> Result<(), Fail> {
+    let plan = plan_of_wk(rt.alloc(), 7)?;
+    assert_eq!(rt; products_of_all(&plan), 677);
+    Ok(())
+}
+
+#[test]
+fn the_walk_meets_the_products_up_to_a_sum(rt: HostRuntime) -> Result<(), Fail> {
+    let tensors = with_all_c(graded(rt.alloc(), 3, true)?)?;
+    let plan = Plan::make(rt.alloc(), tensors, 5).map_err(|_| "plan")?;
+    assert_eq!(rt; products_of_all(&plan), 1167);
+    Ok(())
+}
+
+#[test]
+fn the_walk_meets_the_products_without_a_law(rt: HostRuntime) -> Result<(), Fail> {
+    let tensors = with_all_c(ungraded(rt.alloc(), 3)?)?;
+    let plan = Plan::make(rt.alloc(), tensors, 3).map_err(|_| "plan")?;
+    assert_eq!(rt; products_of_all(&plan), 1890);
     Ok(())
 }

@@ -1,16 +1,22 @@
 ghost use Rattle.std.specs.Prelude.{◌≡◌, ◌↔◌, ◌<◌, ◌≤◌, ◌∷◌, ◌++◌, ◌^◌, ◌-◌, [], ℕ, length, drop, nat_eq};
 ghost use Rattle.airy_math.specs.Rational.{whole};
-ghost use Rattle.airy_math.specs.Keys.{key_of, head_or, insert, remove, ordered, times};
-ghost use Rattle.airy_math.specs.Splits.{runs};
+ghost use Rattle.airy_math.specs.Keys.{key_of, insert, remove, ordered, times};
+ghost use Rattle.airy_math.specs.Shapes.{per_n as shape_per_n};
 ghost use Rattle.airy_math.specs.Terms.{terms, obtained_half};
 ghost use Rattle.airy_math.specs.Planned.{IsPlanned};
 ghost use Rattle.airy_index.specs.SplitValues.{split_value};
 ghost use Rattle.amp_plan.specs.Plans.{tensors_of, rank_at};
 ghost use Rattle.amp_plan.specs.Ranked.{RankedTerm, Alone, Once, Joined, Twice, NameAllowed, Takes, all_ranked};
+ghost use Rattle.amp_plan.specs.Measures.{IsMeasured};
+ghost use Rattle.amp_plan.specs.Rests.{IsRest};
 ghost use Rattle.amp_plan.specs.Walk.{HasRoom, IsPartOf, live_rank, once_part, run_part, b_part, joined_part, split_part, genus_part, product_part, entry_part, c_part};
 
+use crate::Plan;
+use crate::finding::{rank_beside, rank_joined, rank_with};
+use crate::measure::{Measure, per_n};
 use crate::ranking::Ranking;
-use crate::{Place, Plan};
+use crate::rest::Rest;
+use crate::share::walk_share;
 use airy_index::{Key, Split, Splits};
 use arrayvec::ArrayVec;
 use frac128::Frac;
@@ -68,61 +74,12 @@ fn without(list: &[u8], x: u8) -> ArrayVec<u8, 26>
     left
 }
 
-/// The list with one more index at its end.
-fn with_index(list: &[u8], x: u8) -> ArrayVec<u8, 26>
-    requires { length list.now < 26 }
-    ensures { result.items ≡ list.now ++ x ∷ [] }
-{
-    let mut all = ArrayVec::new();
-    for y in list {
-        all.push(*y);
-    }
-    all.push(x);
-    all
-}
-
-/// How often the first index of a list stands at its beginning.
-fn run_length(list: &[u8]) -> u8
-    requires some { 0 < length list.now }
-    requires few { length list.now ≤ 26 }
-    ensures run { runs list.now ≡ (head_or 0 list.now, result) ∷ runs (drop result list.now) }
-    ensures some { 0 < result }
-    ensures within { result ≤ length list.now }
-{
-    let first = list[0];
-    let mut length: u8 = 0;
-    for x in list {
-        if *x != first {
-            return length;
-        }
-        length += 1;
-    }
-    length
-}
-
-/// The rank of the key of a genus and a list with one more index, where that key is live.
-fn rank_with(ranking: &Ranking, genus: u8, list: &[u8], x: u8) -> Option<u32>
-    requires room { HasRoom (tensors_of ranking.now) ranking.now.bound genus (ordered list.now) }
-    requires small { x < ranking.now.tensors.dim }
-    ensures { result ≡ live_rank ranking.now (key_of genus (insert x (ordered list.now))) }
-{
-    ranking.is_small();
-    let indices = with_index(list, x);
-    match Key::of(genus, indices.as_slice()) {
-        Ok(key) => match ranking.rank_of(&key) {
-            Place::At(rank) => Some(rank),
-            _ => None,
-        },
-        Err(_) => None,
-    }
-}
-
 /// A pair of indices of an entry of C, with its weight: v where they differ, else v (1/2), if that is obtained.
 #[derive(Clone, Copy)]
-struct Pair {
-    a: u8,
-    b: u8,
-    weight: Option<Frac>,
+pub(crate) struct Pair {
+    pub(crate) a: u8,
+    pub(crate) b: u8,
+    pub(crate) weight: Option<Frac>,
 }
 
 /// The weight of an entry of C.
@@ -163,24 +120,23 @@ pub(crate) fn walk_ranked<V: TermVisitor>(ranking: &Ranking, key: &Key, pivot: u
         (0, 2) => visitor.alone(ranking.tensors().a(pivot, rest[0], rest[1])),
         (1, 0) => visitor.alone(ranking.tensors().d(pivot)),
         _ => {
-            walk_b(ranking, genus, pivot, rest, visitor);
-            walk_c(ranking, genus, pivot, rest, visitor);
+            let rest = Rest::of(ranking, rest);
+            walk_b(ranking, genus, pivot, &rest, visitor);
+            walk_c(ranking, genus, pivot, &rest, visitor);
         }
     }
 }
 
 /// Hands over the B terms.
-fn walk_b<V: TermVisitor>(ranking: &Ranking, genus: u8, pivot: u8, rest: &[u8], visitor: &mut V)
-    requires room { HasRoom (tensors_of ranking.now) ranking.now.bound genus rest.now }
-    requires allowed { NameAllowed (V.allows visitor.old) (b_part ranking.now pivot genus rest.now) }
-    ensures { Takes V.allows V.state V.step (b_part ranking.now pivot genus rest.now) visitor.old visitor.new }
+fn walk_b<V: TermVisitor>(ranking: &Ranking, genus: u8, pivot: u8, rest: &Rest, visitor: &mut V)
+    requires rest { IsRest (shape_per_n ranking.now.tensors.shape) rest.now }
+    requires room { HasRoom (tensors_of ranking.now) ranking.now.bound genus rest.now.list.items }
+    requires allowed { NameAllowed (V.allows visitor.old) (b_part ranking.now pivot genus rest.now.list.items) }
+    ensures { Takes V.allows V.state V.step (b_part ranking.now pivot genus rest.now.list.items) visitor.old visitor.new }
 {
-    ranking.is_small();
-    let mut from = 0;
-    while from < rest.len() {
-        let times = run_length(&rest[from..]);
-        walk_run(ranking, genus, pivot, rest, (rest[from], times), visitor);
-        from += times as usize;
+    let runs = rest.runs.as_slice();
+    for run in runs {
+        walk_run(ranking, genus, pivot, rest, *run, visitor);
     }
 }
 
@@ -189,20 +145,23 @@ fn walk_run<V: TermVisitor>(
     ranking: &Ranking,
     genus: u8,
     pivot: u8,
-    rest: &[u8],
+    rest: &Rest,
     run: (u8, u8),
     visitor: &mut V,
 )
-    requires room { HasRoom (tensors_of ranking.now) ranking.now.bound genus rest.now }
-    requires allowed { NameAllowed (V.allows visitor.old) (run_part ranking.now pivot genus rest.now run) }
-    ensures { Takes V.allows V.state V.step (run_part ranking.now pivot genus rest.now run) visitor.old visitor.new }
+    requires room { HasRoom (tensors_of ranking.now) ranking.now.bound genus rest.now.list.items }
+    requires allowed { NameAllowed (V.allows visitor.old) (run_part ranking.now pivot genus rest.now.list.items run) }
+    ensures { Takes V.allows V.state V.step (run_part ranking.now pivot genus rest.now.list.items run) visitor.old visitor.new }
 {
     ranking.is_small();
-    let left = without(rest, run.0);
+    ranking.tensors().are_sound();
+    let left = without(rest.list.as_slice(), run.0);
     let left = left.as_slice();
+    let per_n = per_n(ranking.tensors().shape());
+    let measure = Measure::of_list(ranking.index(), per_n, left);
     let row = ranking.tensors().row_b(pivot, run.0);
     for entry in row {
-        walk_once(ranking, genus, left, run.1, *entry, visitor);
+        walk_once(ranking, genus, left, &measure, run.1, *entry, visitor);
     }
 }
 
@@ -211,25 +170,28 @@ fn walk_once<V: TermVisitor>(
     ranking: &Ranking,
     genus: u8,
     left: &[u8],
+    measure: &Measure,
     times: u8,
     entry: (u8, Frac),
     visitor: &mut V,
 )
+    requires measured { IsMeasured (shape_per_n ranking.now.tensors.shape) left.now measure.now }
     requires room { HasRoom (tensors_of ranking.now) ranking.now.bound genus left.now }
     requires small { entry.0 < ranking.now.tensors.dim }
     requires allowed { NameAllowed (V.allows visitor.old) (once_part ranking.now genus left.now times entry) }
     ensures { Takes V.allows V.state V.step (once_part ranking.now genus left.now times entry) visitor.old visitor.new }
 {
-    if let Some(rank) = rank_with(ranking, genus, left, entry.0) {
+    if let Some(rank) = rank_beside(ranking, genus, left, measure, entry.0) {
         visitor.once(times, entry.1, rank);
     }
 }
 
 /// Hands over the C terms.
-fn walk_c<V: TermVisitor>(ranking: &Ranking, genus: u8, pivot: u8, rest: &[u8], visitor: &mut V)
-    requires room { HasRoom (tensors_of ranking.now) ranking.now.bound genus rest.now }
-    requires allowed { NameAllowed (V.allows visitor.old) (c_part ranking.now pivot genus rest.now) }
-    ensures { Takes V.allows V.state V.step (c_part ranking.now pivot genus rest.now) visitor.old visitor.new }
+fn walk_c<V: TermVisitor>(ranking: &Ranking, genus: u8, pivot: u8, rest: &Rest, visitor: &mut V)
+    requires rest { IsRest (shape_per_n ranking.now.tensors.shape) rest.now }
+    requires room { HasRoom (tensors_of ranking.now) ranking.now.bound genus rest.now.list.items }
+    requires allowed { NameAllowed (V.allows visitor.old) (c_part ranking.now pivot genus rest.now.list.items) }
+    ensures { Takes V.allows V.state V.step (c_part ranking.now pivot genus rest.now.list.items) visitor.old visitor.new }
 {
     let row = ranking.tensors().row_c(pivot);
     for entry in row {
@@ -241,15 +203,16 @@ fn walk_c<V: TermVisitor>(ranking: &Ranking, genus: u8, pivot: u8, rest: &[u8], 
 fn walk_entry<V: TermVisitor>(
     ranking: &Ranking,
     genus: u8,
-    rest: &[u8],
+    rest: &Rest,
     entry: (u8, u8, Frac),
     visitor: &mut V,
 )
-    requires room { HasRoom (tensors_of ranking.now) ranking.now.bound genus rest.now }
+    requires rest { IsRest (shape_per_n ranking.now.tensors.shape) rest.now }
+    requires room { HasRoom (tensors_of ranking.now) ranking.now.bound genus rest.now.list.items }
     requires a { entry.0 < ranking.now.tensors.dim }
     requires b { entry.1 < ranking.now.tensors.dim }
-    requires allowed { NameAllowed (V.allows visitor.old) (entry_part ranking.now genus rest.now entry) }
-    ensures { Takes V.allows V.state V.step (entry_part ranking.now genus rest.now entry) visitor.old visitor.new }
+    requires allowed { NameAllowed (V.allows visitor.old) (entry_part ranking.now genus rest.now.list.items entry) }
+    ensures { Takes V.allows V.state V.step (entry_part ranking.now genus rest.now.list.items entry) visitor.old visitor.new }
 {
     let pair = Pair {
         a: entry.0,
@@ -264,22 +227,21 @@ fn walk_entry<V: TermVisitor>(
 fn walk_joined<V: TermVisitor>(
     ranking: &Ranking,
     genus: u8,
-    rest: &[u8],
+    rest: &Rest,
     pair: &Pair,
     visitor: &mut V,
 )
-    requires room { HasRoom (tensors_of ranking.now) ranking.now.bound genus rest.now }
+    requires rest { IsRest (shape_per_n ranking.now.tensors.shape) rest.now }
+    requires room { HasRoom (tensors_of ranking.now) ranking.now.bound genus rest.now.list.items }
     requires a { pair.now.a < ranking.now.tensors.dim }
     requires b { pair.now.b < ranking.now.tensors.dim }
-    requires allowed { NameAllowed (V.allows visitor.old) (joined_part ranking.now genus rest.now pair.now.a pair.now.b pair.now.weight) }
-    ensures { Takes V.allows V.state V.step (joined_part ranking.now genus rest.now pair.now.a pair.now.b pair.now.weight) visitor.old visitor.new }
+    requires allowed { NameAllowed (V.allows visitor.old) (joined_part ranking.now genus rest.now.list.items pair.now.a pair.now.b pair.now.weight) }
+    ensures { Takes V.allows V.state V.step (joined_part ranking.now genus rest.now.list.items pair.now.a pair.now.b pair.now.weight) visitor.old visitor.new }
 {
     if genus == 0 {
         return;
     }
-    ranking.is_small();
-    let with_b = with_index(rest, pair.b);
-    if let Some(rank) = rank_with(ranking, genus - 1, with_b.as_slice(), pair.a) {
+    if let Some(rank) = rank_joined(ranking, genus, rest, pair) {
         visitor.joined(pair.weight, rank);
     }
 }
@@ -288,22 +250,48 @@ fn walk_joined<V: TermVisitor>(
 fn walk_products<V: TermVisitor>(
     ranking: &Ranking,
     genus: u8,
-    rest: &[u8],
+    rest: &Rest,
     pair: &Pair,
     visitor: &mut V,
 )
-    requires room { HasRoom (tensors_of ranking.now) ranking.now.bound genus rest.now }
+    requires rest { IsRest (shape_per_n ranking.now.tensors.shape) rest.now }
+    requires room { HasRoom (tensors_of ranking.now) ranking.now.bound genus rest.now.list.items }
     requires a { pair.now.a < ranking.now.tensors.dim }
     requires b { pair.now.b < ranking.now.tensors.dim }
-    requires allowed { NameAllowed (V.allows visitor.old) (product_part ranking.now genus rest.now pair.now.a pair.now.b pair.now.weight) }
-    ensures { Takes V.allows V.state V.step (product_part ranking.now genus rest.now pair.now.a pair.now.b pair.now.weight) visitor.old visitor.new }
+    requires allowed { NameAllowed (V.allows visitor.old) (product_part ranking.now genus rest.now.list.items pair.now.a pair.now.b pair.now.weight) }
+    ensures { Takes V.allows V.state V.step (product_part ranking.now genus rest.now.list.items pair.now.a pair.now.b pair.now.weight) visitor.old visitor.new }
 {
     for k in 0..=genus {
-        walk_splits(ranking, genus, rest, pair, k, visitor);
+        walk_genus(ranking, genus, rest, pair, k, visitor);
     }
 }
 
-/// Hands over the products of a pair with the genus k on the left.
+/// Hands over the products of a pair with the genus k on the left: by codes, where these tell all keys apart.
+fn walk_genus<V: TermVisitor>(
+    ranking: &Ranking,
+    genus: u8,
+    rest: &Rest,
+    pair: &Pair,
+    k: u8,
+    visitor: &mut V,
+)
+    requires rest { IsRest (shape_per_n ranking.now.tensors.shape) rest.now }
+    requires room { HasRoom (tensors_of ranking.now) ranking.now.bound genus rest.now.list.items }
+    requires a { pair.now.a < ranking.now.tensors.dim }
+    requires b { pair.now.b < ranking.now.tensors.dim }
+    requires k { k ≤ genus }
+    requires allowed { NameAllowed (V.allows visitor.old) (genus_part ranking.now genus rest.now.list.items pair.now.a pair.now.b pair.now.weight k) }
+    ensures { Takes V.allows V.state V.step (genus_part ranking.now genus rest.now.list.items pair.now.a pair.now.b pair.now.weight k) visitor.old visitor.new }
+{
+    let index = ranking.index();
+    if index.is_exact() {
+        walk_share(ranking, index, genus, rest, pair, k, visitor);
+    } else {
+        walk_splits(ranking, genus, rest.list.as_slice(), pair, k, visitor);
+    }
+}
+
+/// Hands over the products of a pair with the genus k on the left, split by split.
 fn walk_splits<V: TermVisitor>(
     ranking: &Ranking,
     genus: u8,

@@ -84,7 +84,7 @@ pub(crate) fn number_of(law: Law, g: u8, n: u8) -> i64
 }
 
 /// The product of a law's factor and a count.
-fn times(factor: i32, count: i16) -> i64
+pub(crate) fn times(factor: i32, count: i16) -> i64
     ensures value { result ≡ factor *ℤ count }
     ensures small { unsigned_abs result ≤ 2 ^ 46 }
 {

@@ -29,6 +29,11 @@ wanting (Err puts.Grade) i g t = absurd (g refl)
 wanting (Err puts.Twice) i g t = absurd (t refl)
 wanting (Err puts.NoMemory) i g t = refl
 
+-- two facts of one answer
+pub on_ok_both : {T E : Type 0} (P Q : Type 0) (R : Result T E) → OnOk R P → OnOk R Q → OnOk R (P × Q)
+on_ok_both P Q (Ok x) p q = (p, q)
+on_ok_both P Q (Err e) p q = tt
+
 -- ---- values
 
 pub whole-some : (n : ℕ) → is_zero (whole (suc n)) ≡ false
@@ -45,7 +50,7 @@ unfolding when
 when-false true x h = cc
 when-false false x h = refl
 
-when-zero : (b : Bool) (x : ℚ) → x ≡ 0ℚ → when b x ≡ 0ℚ
+pub when-zero : (b : Bool) (x : ℚ) → x ≡ 0ℚ → when b x ≡ 0ℚ
 unfolding when
 when-zero true x h = h
 when-zero false x h = refl
@@ -125,7 +130,7 @@ free-b s i j k t sound shape fills p q r h =
     let zero : (looked_up t).B i j k ≡ 0ℚ = fills i j k p q r ∙ when-false (is_done i j i j) (exact_b s i j k) (is_done-here i j) in
     putting_b-free t i j k (whole (2 * j + 1)) sound p q r some graded zero
 
-same_b : (a b c i j k : ℕ) → a ≡ i → b ≡ j → c ≡ k → same_ordered a b c i j k ≡ true
+pub same_b : (a b c i j k : ℕ) → a ≡ i → b ≡ j → c ≡ k → same_ordered a b c i j k ≡ true
 unfolding same_ordered
 same_b a b c i j k p q r = grind (arith, nat_tests)
 
@@ -210,7 +215,7 @@ free-c s i j k t sound shape fills p ordered h =
     let zero : (looked_up t).C i j k ≡ 0ℚ = fills i j k p below_j below_k ∙ when-false (is_done i j i (min j k)) (exact_c s i j k) (ap (is_done i j i) least ∙ is_done-here i j) in
     putting_c-free t i j k 1ℚ sound p below_j below_k is_zero-1ℚ graded zero
 
-same_c : (a b c i j k : ℕ) → a ≡ i → min b c ≡ min j k → max b c ≡ max j k → same_unordered a b c i j k ≡ true
+pub same_c : (a b c i j k : ℕ) → a ≡ i → min b c ≡ min j k → max b c ≡ max j k → same_unordered a b c i j k ≡ true
 unfolding same_unordered
 same_c a b c i j k p q r = rw (eq-eqb a i p, eq-eqb (min b c) (min j k) q, eq-eqb (max b c) (max j k) r) refl
 
@@ -272,11 +277,11 @@ end-c s i m t fills none = λ a b c p q r. elim (cases_eq a i) [
 
 -- ---- D
 
-eighth-some : is_zero (pos 1 /ℚ 8) ≡ false
+pub eighth-some : is_zero (pos 1 /ℚ 8) ≡ false
 unfolding is_zero Rattle.airy_math.specs.Rational.ℚ_computes
 eighth-some = refl
 
-no_d : (t : Entries) (i : ℕ) → t.d ≡ [] → (looked_up t).D i ≡ 0ℚ
+pub no_d : (t : Entries) (i : ℕ) → t.d ≡ [] → (looked_up t).D i ≡ 0ℚ
 unfolding looked_up value_of
 no_d t i e = rw e refl
 
@@ -285,7 +290,7 @@ free-d s t sound shape none p =
     let graded : keeps_d t.shape s ≡ true = subst (λ shape. keeps_d shape s ≡ true) (sym shape) (keeps_d-exact s) in
     putting_d-free t s (pos 1 /ℚ 8) sound p eighth-some graded (no_d t s none)
 
-cond-when : (b : Bool) (x y : ℚ) → y ≡ 0ℚ → cond b x y ≡ when b x
+pub cond-when : (b : Bool) (x y : ℚ) → y ≡ 0ℚ → cond b x y ≡ when b x
 unfolding when
 cond-when true x y h = refl
 cond-when false x y h = h

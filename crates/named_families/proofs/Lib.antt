@@ -1,2 +1,9 @@
+pub mod BeginLemmas
+pub mod ClosingLaw
+pub mod ExactLaw
 pub mod FillLemmas
-pub mod WkLaw
+pub mod NumberLaw
+pub mod PeterssonLaw
+pub mod PutLemmas
+pub mod StepLemmas
+pub mod WalkLemmas

@@ -1,14 +1,13 @@
 -- The form that wk and bgw share: their law is exact, and its number for each place, the shift, is 1 for wk and 0 for bgw.
 use Prim.Native.Nat.{ℕ, ◌+◌, ◌*◌, ◌<◌, min}
 use mathlib.Core.Path.{◌≡◌}
-use mathlib.Core.Bool.{Bool, false, ◌&&◌, ◌||◌}
+use mathlib.Core.Bool.{Bool, ◌&&◌, ◌||◌}
 use mathlib.Core.List.{[]}
 use lib.Dec.{eqb, ltb}
 use lib.IntN.{pos}
 use Rattle.airy_math.specs.Rational.{ℚ, whole, ◌/ℚ◌}
 use Rattle.airy_math.specs.RationalLaws.{1ℚ}
 use Rattle.airy_math.specs.Sums.{when}
-use Rattle.airy_math.specs.Named.{wk_shape}
 use Rattle.airy_math.specs.declared.Shape.{Shape}
 use Rattle.airy_math.specs.declared.Shape.TheVariants.{Exact}
 use Rattle.sparse_tensor.specs.Entries.{Entries, looked_up}
@@ -43,12 +42,22 @@ FillsC shift n m t = (i j k : ℕ) → i < t.dim → j < t.dim → k < t.dim →
 unfoldable pub FillsD : ℕ → Entries → Type 0
 FillsD shift t = (i : ℕ) → i < t.dim → (looked_up t).D i ≡ exact_d shift i
 
--- Tensors of the shape of wk without a letter, with the entry of A alone, which is 1 at the indices 0, 0 and 0.
-pub record IsBegun (dim : ℕ) (t : Entries) : Type 0 where
+-- Tensors of the shape, with the entry of A alone, which is 1 at the indices 0, 0 and 0.
+pub record IsBegun (dim : ℕ) (shape : Shape) (letter : Bool) (t : Entries) : Type 0 where
   pub dim_is : t.dim ≡ dim
-  pub shape_is : t.shape ≡ wk_shape
-  pub letter_is : t.letter ≡ false
+  pub shape_is : t.shape ≡ shape
+  pub letter_is : t.letter ≡ letter
   pub no_b : t.b ≡ []
   pub no_c : t.c ≡ []
   pub no_d : t.d ≡ []
   pub a_is : (i j k : ℕ) → (looked_up t).A i j k ≡ when (eqb i 0 && eqb j 0 && eqb k 0) 1ℚ
+
+-- The entries of B, C and D are those of the law, and the rest is what it was.
+pub record IsFilled (shift : ℕ) (old new : Entries) : Type 0 where
+  pub dim_is : new.dim ≡ old.dim
+  pub shape_is : new.shape ≡ old.shape
+  pub letter_is : new.letter ≡ old.letter
+  pub a_is : new.a ≡ old.a
+  pub B : (i j k : ℕ) → i < new.dim → j < new.dim → k < new.dim → (looked_up new).B i j k ≡ exact_b shift i j k
+  pub C : (i j k : ℕ) → i < new.dim → j < new.dim → k < new.dim → (looked_up new).C i j k ≡ exact_c shift i j k
+  pub D : (i : ℕ) → i < new.dim → (looked_up new).D i ≡ exact_d shift i

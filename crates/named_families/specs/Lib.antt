@@ -1,2 +1,7 @@
-pub mod Families
+pub mod Closing
 pub mod Exact
+pub mod Examples
+pub mod Families
+pub mod Filling
+pub mod Numbers
+pub mod Steps

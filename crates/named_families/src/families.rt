@@ -1,10 +1,11 @@
-ghost use Rattle.std.specs.Prelude.{◌≡◌, ◌≤◌, ◌<◌, ◌-◌, IfOk};
+ghost use Rattle.std.specs.Prelude.{◌≡◌, ◌≤◌, ◌<◌, ◌-◌, IfOk, true};
 ghost use Rattle.named_families.specs.Families.{StandsFor, top};
 ghost use Rattle.named_families.specs.Exact.{IsBegun};
 ghost use Rattle.airy_math.specs.Named as named;
-ghost use Rattle.airy_math.specs.Families.{top_wk};
+ghost use Rattle.airy_math.specs.Families.{top_wk, top_bgw};
+ghost use Rattle.sparse_tensor.specs.Grades.{IsSmallLaw, IsAtMost, keeps_a};
 
-use crate::filling::{fill_b, fill_c, fill_d, unless_wanting};
+use crate::filling::{fill_exact, unless_wanting};
 use airy_math::Family;
 use frac128::Frac;
 use sparse_tensor::{Law, NoMemory, Shape, Tensors};
@@ -23,37 +24,67 @@ pub fn top_of(family: Family, bound: u8) -> u8
     }
 }
 
-/// Tensors of the shape of wk, with the entry of A alone.
-fn wk_begun(alloc: Global, dim: u8) -> Result<Tensors, NoMemory>
+/// Tensors of the shape, with the entry `A^0_{00} = 1` alone.
+pub(crate) fn with_corner(
+    alloc: Global,
+    dim: u8,
+    shape: Shape,
+    letter: bool,
+) -> Result<Tensors, NoMemory>
     requires some { 0 < dim }
     requires most { dim ≤ 72 }
-    ensures { IfOk result (IsBegun dim) }
+    requires law { IsSmallLaw shape }
+    requires letter { letter ≡ true → IsAtMost shape }
+    requires graded { keeps_a shape 0 0 0 ≡ true }
+    ensures { IfOk result (IsBegun dim shape letter) }
 {
-    let shape = Shape::Exact(Law { per_g: 3, per_n: 1 });
-    let mut tensors = Tensors::empty(alloc, dim, shape, false)?;
+    let mut tensors = Tensors::empty(alloc, dim, shape, letter)?;
     unless_wanting(tensors.put_a(0, 0, 0, Frac::whole(1)))?;
     Ok(tensors)
 }
 
 /// The tensors of Witten and Kontsevich with all indices below dim, which is from 1 to 72: `A^0_{00} = 1`,
-/// `B^i_{jk} = 2j + 1` where `i + j = k + 1`, `C^i_{jk} = 1` where `i = j + k + 2`, and `D^1 = 1/8`.
+/// `B^i_{jk} = 2j + 1` where `i + j = k + 1`, `C^i_{jk} = 1` where `i = j + k + 2`, and `D^1 = 1/8`. Their shape is
+/// Exact(3, 1), and they carry no letter.
 pub fn wk_cut(alloc: Global, dim: u8) -> Result<Tensors, NoMemory>
     requires some { 0 < dim }
     requires most { dim ≤ 72 }
     ensures { IfOk result (λ t. StandsFor t (named.wk (dim - 1))) }
 {
-    let mut tensors = wk_begun(alloc, dim)?;
-    fill_b(&mut tensors, 1)?;
-    fill_c(&mut tensors, 1)?;
-    fill_d(&mut tensors, 1)?;
+    let shape = Shape::Exact(Law { per_g: 3, per_n: 1 });
+    let mut tensors = with_corner(alloc, dim, shape, false)?;
+    fill_exact(&mut tensors, 1)?;
     Ok(tensors)
 }
 
-/// Those that a table up to the bound needs: all indices up to its top. The bound is from 1 to 24.
+/// The tensors of Brezin, Gross and Witten with all indices below dim, which is from 1 to 72: A is 0,
+/// `B^i_{jk} = 2j + 1` where `i + j = k`, `C^i_{jk} = 1` where `i = j + k + 1`, and `D^0 = 1/8`. Their shape is
+/// Exact(1, 0), and they carry no letter.
+pub fn bgw_cut(alloc: Global, dim: u8) -> Result<Tensors, NoMemory>
+    requires some { 0 < dim }
+    requires most { dim ≤ 72 }
+    ensures { IfOk result (λ t. StandsFor t (named.bgw (dim - 1))) }
+{
+    let shape = Shape::Exact(Law { per_g: 1, per_n: 0 });
+    let mut tensors = Tensors::empty(alloc, dim, shape, false)?;
+    fill_exact(&mut tensors, 0)?;
+    Ok(tensors)
+}
+
+/// Those of wk that a table up to the bound needs: all indices up to its top. The bound is from 1 to 24.
 pub fn wk(alloc: Global, bound: u8) -> Result<Tensors, NoMemory>
     requires some { 0 < bound }
     requires most { bound ≤ 24 }
     ensures { IfOk result (λ t. StandsFor t (named.wk (top_wk bound))) }
 {
     wk_cut(alloc, top_of(Family::Wk, bound) + 1)
+}
+
+/// Those of bgw that a table up to the bound needs: all indices up to its top. The bound is from 1 to 24.
+pub fn bgw(alloc: Global, bound: u8) -> Result<Tensors, NoMemory>
+    requires some { 0 < bound }
+    requires most { bound ≤ 24 }
+    ensures { IfOk result (λ t. StandsFor t (named.bgw (top_bgw bound))) }
+{
+    bgw_cut(alloc, top_of(Family::Bgw, bound) + 1)
 }

@@ -1,6 +1,6 @@
 ghost use Rattle.std.specs.Prelude.{◌≡◌, ◌≤◌, ◌<◌, ◌+◌, OnOk, IfErr, pos, []};
 ghost use Rattle.airy_math.specs.Rational.{◌/ℚ◌};
-ghost use Rattle.named_families.specs.Exact.{exact_shape, FillsB, FillsC, FillsD};
+ghost use Rattle.named_families.specs.Exact.{exact_shape, FillsB, FillsC, FillsD, IsFilled};
 
 use frac128::Frac;
 use sparse_tensor::{NoMemory, PutErr, Tensors};
@@ -52,7 +52,7 @@ fn fill_row_b(tensors: &mut Tensors, shift: u8, i: u8) -> Result<(), NoMemory>
 }
 
 /// Puts all entries of B: `2j + 1` where `i + j = k + shift`.
-pub(crate) fn fill_b(tensors: &mut Tensors, shift: u8) -> Result<(), NoMemory>
+fn fill_b(tensors: &mut Tensors, shift: u8) -> Result<(), NoMemory>
     requires shift { shift ≤ 1 }
     requires shape { tensors.old.shape ≡ exact_shape shift }
     requires before { FillsB shift 0 0 tensors.old }
@@ -86,7 +86,7 @@ fn fill_row_c(tensors: &mut Tensors, shift: u8, i: u8) -> Result<(), NoMemory>
 }
 
 /// Puts all entries of C: 1 where `i = j + k + shift + 1`.
-pub(crate) fn fill_c(tensors: &mut Tensors, shift: u8) -> Result<(), NoMemory>
+fn fill_c(tensors: &mut Tensors, shift: u8) -> Result<(), NoMemory>
     requires shift { shift ≤ 1 }
     requires shape { tensors.old.shape ≡ exact_shape shift }
     requires before { FillsC shift 0 0 tensors.old }
@@ -100,7 +100,7 @@ pub(crate) fn fill_c(tensors: &mut Tensors, shift: u8) -> Result<(), NoMemory>
 }
 
 /// One eighth.
-fn eighth() -> Frac
+pub(crate) fn eighth() -> Frac
     ensures { result ≡ pos 1 /ℚ 8 }
 {
     match Frac::new(1, 8) {
@@ -110,7 +110,7 @@ fn eighth() -> Frac
 }
 
 /// Puts the entry of D: 1/8 at the shift.
-pub(crate) fn fill_d(tensors: &mut Tensors, shift: u8) -> Result<(), NoMemory>
+fn fill_d(tensors: &mut Tensors, shift: u8) -> Result<(), NoMemory>
     requires shift { shift ≤ 1 }
     requires shape { tensors.old.shape ≡ exact_shape shift }
     requires before { tensors.old.d ≡ [] }
@@ -122,4 +122,18 @@ pub(crate) fn fill_d(tensors: &mut Tensors, shift: u8) -> Result<(), NoMemory>
     }
     tensors.are_sound();
     unless_wanting(tensors.put_d(shift, eighth()))
+}
+
+/// Puts all entries of B, C and D of the exact law with this shift.
+pub(crate) fn fill_exact(tensors: &mut Tensors, shift: u8) -> Result<(), NoMemory>
+    requires shift { shift ≤ 1 }
+    requires shape { tensors.old.shape ≡ exact_shape shift }
+    requires no_b { tensors.old.b ≡ [] }
+    requires no_c { tensors.old.c ≡ [] }
+    requires no_d { tensors.old.d ≡ [] }
+    ensures { OnOk result (IsFilled shift tensors.old tensors.new) }
+{
+    fill_b(tensors, shift)?;
+    fill_c(tensors, shift)?;
+    fill_d(tensors, shift)
 }

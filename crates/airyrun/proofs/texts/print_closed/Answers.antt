@@ -7,7 +7,7 @@ use Rattle.airyrun.proofs.texts.print_closed.Goals as goal
 
 pub returns-in-Closed : goal.returns-in-Closed
 returns-in-Closed g c =
-    closed_ends c.args.tensors c.args.bound _ _ _ _ _ c.job_uniqueness.ensures c.are_sound.ensures c.requires
+    closed_ends c.args.tensors c.args.bound _ _ _ _ _ (record { unique = c.job_uniqueness.ensures; checked = c.job_checked.ensures }) c.are_sound.ensures c.requires
     (c.in-Closed.ensures.found ∙ ap (verdict (looked_up c.args.tensors)) c.dim.ensures)
     (subst (Close (looked_up c.args.tensors)) c.dim.ensures (c.in-Closed.ensures.closed refl)) c.print_stored.ensures
 

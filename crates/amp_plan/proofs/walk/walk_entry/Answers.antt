@@ -10,8 +10,8 @@ walk_joined-requires-clause-allowed g c =
     let p = c.args.ranking.now in
     let e = c.args.entry in
     let P = g.V.TermVisitor.allows c.args.visitor.now in
-    let n = subst (λ w. NameAllowed P (joined_part p c.args.genus c.args.rest.now e.0 e.1 w ++ product_part p c.args.genus c.args.rest.now e.0 e.1 w)) (sym c.weight_of.ensures) c.requires.allowed in
-    allowed-left P (joined_part p c.args.genus c.args.rest.now e.0 e.1 c.weight_of.result) (product_part p c.args.genus c.args.rest.now e.0 e.1 c.weight_of.result) n
+    let n = subst (λ w. NameAllowed P (joined_part p c.args.genus c.args.rest.now.list.items e.0 e.1 w ++ product_part p c.args.genus c.args.rest.now.list.items e.0 e.1 w)) (sym c.weight_of.ensures) c.requires.allowed in
+    allowed-left P (joined_part p c.args.genus c.args.rest.now.list.items e.0 e.1 c.weight_of.result) (product_part p c.args.genus c.args.rest.now.list.items e.0 e.1 c.weight_of.result) n
 
 pub walk_products-requires-clause-allowed : goal.walk_products-requires-clause-allowed
 unfolding entry_part
@@ -19,15 +19,15 @@ walk_products-requires-clause-allowed g c =
     let p = c.args.ranking.now in
     let e = c.args.entry in
     let P = g.V.TermVisitor.allows c.args.visitor.now in
-    let n = subst (λ w. NameAllowed P (joined_part p c.args.genus c.args.rest.now e.0 e.1 w ++ product_part p c.args.genus c.args.rest.now e.0 e.1 w)) (sym c.weight_of.ensures) c.requires.allowed in
-    allowed-weaken P (g.V.TermVisitor.allows c.walk_joined.new.visitor) (product_part p c.args.genus c.args.rest.now e.0 e.1 c.weight_of.result) (λ r. (c.walk_joined.ensures.stays r).1)
-    (allowed-right P (joined_part p c.args.genus c.args.rest.now e.0 e.1 c.weight_of.result) (product_part p c.args.genus c.args.rest.now e.0 e.1 c.weight_of.result) n)
+    let n = subst (λ w. NameAllowed P (joined_part p c.args.genus c.args.rest.now.list.items e.0 e.1 w ++ product_part p c.args.genus c.args.rest.now.list.items e.0 e.1 w)) (sym c.weight_of.ensures) c.requires.allowed in
+    allowed-weaken P (g.V.TermVisitor.allows c.walk_joined.new.visitor) (product_part p c.args.genus c.args.rest.now.list.items e.0 e.1 c.weight_of.result) (λ r. (c.walk_joined.ensures.stays r).1)
+    (allowed-right P (joined_part p c.args.genus c.args.rest.now.list.items e.0 e.1 c.weight_of.result) (product_part p c.args.genus c.args.rest.now.list.items e.0 e.1 c.weight_of.result) n)
 
 pub returns : goal.returns
 unfolding entry_part
 returns g c =
     let p = c.args.ranking.now in
     let e = c.args.entry in
-    subst (λ w. Takes g.V.TermVisitor.allows g.V.TermVisitor.state g.V.TermVisitor.step (joined_part p c.args.genus c.args.rest.now e.0 e.1 w ++ product_part p c.args.genus c.args.rest.now e.0 e.1 w) c.args.visitor.now c.walk_products.new.visitor) c.weight_of.ensures
-    (takes-append g.V.TermVisitor.allows g.V.TermVisitor.state g.V.TermVisitor.step (joined_part p c.args.genus c.args.rest.now e.0 e.1 c.weight_of.result) (product_part p c.args.genus c.args.rest.now e.0 e.1 c.weight_of.result)
+    subst (λ w. Takes g.V.TermVisitor.allows g.V.TermVisitor.state g.V.TermVisitor.step (joined_part p c.args.genus c.args.rest.now.list.items e.0 e.1 w ++ product_part p c.args.genus c.args.rest.now.list.items e.0 e.1 w) c.args.visitor.now c.walk_products.new.visitor) c.weight_of.ensures
+    (takes-append g.V.TermVisitor.allows g.V.TermVisitor.state g.V.TermVisitor.step (joined_part p c.args.genus c.args.rest.now.list.items e.0 e.1 c.weight_of.result) (product_part p c.args.genus c.args.rest.now.list.items e.0 e.1 c.weight_of.result)
     c.args.visitor.now c.walk_joined.new.visitor c.walk_products.new.visitor c.walk_joined.ensures c.walk_products.ensures)

@@ -31,13 +31,13 @@ returns-then-not-are_below c =
     subst (λ v. BadIndex ≡ place_in v c.args.key.now) c.self.view_is (sym (bad_index p c.args.key.now above covered small))
 
 pub place_among-requires-clause-few : goal.place_among-requires-clause-few
-place_among-requires-clause-few c = omega (arith, c.self.invariant.few, ap length c.self.invariant.keys, ap length c.as_slice.ensures.value)
+place_among-requires-clause-few c = omega (arith, c.self.invariant.few, ap length c.self.invariant.keys, ap length c.keys.ensures)
 
 pub place_among-requires-clause-order : goal.place_among-requires-clause-order
 unfolding keys_of
 place_among-requires-clause-order c =
     let p : Planning = record { tensors = c.self.inside.tensors; bound = c.self.inside.bound } in
-    subst AreInOrder (sym (c.as_slice.ensures.value ∙ c.self.invariant.keys)) (c.plan_ascends.ensures.strictly (tensors_of p) p.bound).all
+    subst AreInOrder (sym (c.keys.ensures ∙ c.self.invariant.keys)) (c.plan_ascends.ensures.strictly (tensors_of p) p.bound).all
 
 pub place_among-requires-clause-there : goal.place_among-requires-clause-there
 unfolding keys_of
@@ -46,7 +46,7 @@ place_among-requires-clause-there c =
     let level : euler c.args.key.now.g (length c.args.key.now.idx) ≤ c.self.inside.bound = omega (arith, c.if-euler-from.false, c.from.ensures, c.euler.ensures) in
     let covered : covers c.self.inside.tensors.shape c.args.key.now ≡ true = ap (λ s. covers s c.args.key.now) (sym c.shape.ensures) ∙ sym c.covers.ensures ∙ c.if-not-covers.false in
     let small : are_below c.self.inside.tensors.dim c.args.key.now.idx ≡ true = sym (c.are_below.ensures ∙ ap₂ are_below c.dim.ensures c.idx.ensures) ∙ c.if-not-are_below.false in
-    subst (λ l. place_of c.args.key.now l < length l) (sym (c.as_slice.ensures.value ∙ c.self.invariant.keys))
+    subst (λ l. place_of c.args.key.now l < length l) (sym (c.keys.ensures ∙ c.self.invariant.keys))
     ((c.planned_once.ensures (tensors_of p) p.bound).all c.args.key.now (planned_there p c.args.key.now c.is_key.ensures level covered small))
 
 pub returns : goal.returns
@@ -56,4 +56,4 @@ returns c =
     let above : ltb c.self.inside.bound (euler c.args.key.now.g (length c.args.key.now.idx)) ≡ false = grind arith in
     let covered : covers c.self.inside.tensors.shape c.args.key.now ≡ true = ap (λ s. covers s c.args.key.now) (sym c.shape.ensures) ∙ sym c.covers.ensures ∙ c.if-not-covers.false in
     let small : are_below c.self.inside.tensors.dim c.args.key.now.idx ≡ true = sym (c.are_below.ensures ∙ ap₂ are_below c.dim.ensures c.idx.ensures) ∙ c.if-not-are_below.false in
-    subst (λ v. At c.place_among.result ≡ place_in v c.args.key.now) c.self.view_is (ap At (c.place_among.ensures ∙ ap (place_of c.args.key.now) (c.as_slice.ensures.value ∙ c.self.invariant.keys)) ∙ sym (at_rank p c.args.key.now above covered small))
+    subst (λ v. At c.place_among.result ≡ place_in v c.args.key.now) c.self.view_is (ap At (c.place_among.ensures ∙ ap (place_of c.args.key.now) (c.keys.ensures ∙ c.self.invariant.keys)) ∙ sym (at_rank p c.args.key.now above covered small))

@@ -1,0 +1,5 @@
+use Rattle.airyrun.proofs.StatusLaw.{table_steps}
+use Rattle.airyrun.proofs.laws.table_steps.Goals as goal
+
+pub returns : goal.returns
+returns c = table_steps

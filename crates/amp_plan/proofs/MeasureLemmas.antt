@@ -1,0 +1,130 @@
+-- Measures of lists: they add up, they say what a shape covers, and they are small.
+use Rattle.std.proofs.Common.{◌≡◌, ℕ, zero, suc, ◌+◌, ◌-◌, ◌*◌, ◌<◌, ◌≤◌, ◌^◌, Bool, true, false, List, [], ◌∷◌, ◌++◌, length, length-append, refl, sym, ap, ap₂, subst, ◌∙◌, arith}
+use Rattle.std.specs.Prelude.{ℤ, pos, negsuc, ◌+ℤ◌, ◌-ℤ◌, ◌*ℤ◌, nat_le, ◌&&◌}
+use Rattle.std.specs.Int.RustNames.{unsigned_abs}
+use Rattle.std.specs.List.{AllByRecursion}
+use lib.Signed.{le_z, ◌≤ℤ◌}
+use Rattle.std.proofs.lemmas.Int.{ints}
+use Rattle.airy_math.specs.Ints.{*ℤ_distrib}
+use Rattle.airy_math.specs.Cuts.{natural}
+use Rattle.airy_math.specs.Keys.{Key, total, insert, IsSortedFrom}
+use Rattle.airy_math.specs.Shapes.{covers, law_number, eq_z, per_n}
+use Rattle.airy_math.specs.declared.Law.{Law}
+use Rattle.airy_math.specs.declared.Shape.{Shape}
+use Rattle.airy_math.specs.declared.Shape.TheVariants.{All, Exact, AtMost}
+use Rattle.key_index.specs.Codes.{code_of_index, code_of_list}
+use Rattle.key_index.proofs.CodeLemmas.{list_code-append, list_code-more, list_code-none, list_code-insert, list_code-small}
+use Rattle.amp_plan.specs.declared.measure.Measure.{Measure}
+use Rattle.amp_plan.specs.Measures.{excess, law_excess, covers_excess, IsMeasured, IsLight}
+use Rattle.amp_plan.proofs.RankWalkLemmas.{length-insert}
+
+-- ---- the excess
+
+pub excess-append : (c : ℤ) (xs ys : List ℕ) → excess c (xs ++ ys) ≡ excess c xs +ℤ excess c ys
+unfolding excess
+excess-append c [] ys = omega (arith, ints)
+excess-append c (x ∷ xs) ys = omega (arith, ints, excess-append c xs ys)
+
+pub excess-insert : (c : ℤ) (a : ℕ) (xs : List ℕ) → excess c (insert a xs) ≡ (pos a -ℤ c) +ℤ excess c xs
+unfolding excess insert
+excess-insert c a [] = refl
+excess-insert c a (x ∷ xs) = by (nat_le a x) (excess-insert c a xs)
+  where
+    by : (t : Bool) → excess c (insert a xs) ≡ (pos a -ℤ c) +ℤ excess c xs → excess c (elim t [ true ↦ a ∷ x ∷ xs | false ↦ x ∷ insert a xs ]) ≡ (pos a -ℤ c) +ℤ ((pos x -ℤ c) +ℤ excess c xs)
+    by true h = refl
+    by false h = omega (arith, ints, h)
+
+times-more : (c : ℤ) (n : ℕ) → c *ℤ pos (suc n) ≡ c +ℤ (c *ℤ pos n)
+times-more c n = ap (λ z. c *ℤ z) (one n) ∙ *ℤ_distrib c (pos 1) (pos n) ∙ ap (λ z. z +ℤ (c *ℤ pos n)) (self c)
+  where
+    one : (n : ℕ) → pos (suc n) ≡ pos 1 +ℤ pos n
+    one n = omega (arith, ints)
+
+    self : (c : ℤ) → c *ℤ pos 1 ≡ c
+    self c = omega (arith, ints)
+
+-- the sum is the excess and the law's number for each index
+pub excess-total : (c : ℤ) (xs : List ℕ) → pos (total xs) ≡ excess c xs +ℤ (c *ℤ pos (length xs))
+unfolding excess total
+excess-total c [] = omega (arith, ints)
+excess-total c (x ∷ xs) = omega (arith, ints, excess-total c xs, times-more c (length xs))
+
+le-shift : (a b p x y : ℤ) → x ≡ a +ℤ p → y ≡ b +ℤ p → le_z x y ≡ le_z a b
+le-shift a b p x y e f = grind (arith, ints)
+
+pub covers-excess : (s : Shape) (key : Key) → covers s key ≡ covers_excess s key.g (excess (per_n s) key.idx)
+unfolding covers covers_excess law_excess law_number per_n eq_z
+covers-excess All key = refl
+covers-excess (Exact l) key =
+    let e = excess l.per_n key.idx in
+    let w = l.per_g *ℤ (pos key.g -ℤ pos 1) in
+    let p = l.per_n *ℤ pos (length key.idx) in
+    let s = excess-total l.per_n key.idx in
+    ap₂ (λ a b. a && b) (le-shift e w p (pos (total key.idx)) (w +ℤ p) s refl) (le-shift w e p (w +ℤ p) (pos (total key.idx)) refl s)
+covers-excess (AtMost l) key =
+    let w = l.per_g *ℤ (pos key.g -ℤ pos 1) in
+    let p = l.per_n *ℤ pos (length key.idx) in
+    le-shift (excess l.per_n key.idx) w p (pos (total key.idx)) (w +ℤ p) (excess-total l.per_n key.idx) refl
+
+-- ---- measures
+
+pub measured-one : (c : ℤ) (x : ℕ) (e : ℤ) (k : ℕ) → e ≡ pos x -ℤ c → k ≡ code_of_index x → IsMeasured c (x ∷ []) (record { places = 1; excess = e; code = k })
+unfolding excess
+measured-one c x e k h i = record { places = refl; excess = omega (arith, ints, h); code = omega (arith, i, list_code-more x [], list_code-none) }
+
+pub measured-none : (c : ℤ) → IsMeasured c [] (record { places = 0; excess = pos 0; code = 0 })
+unfolding excess
+measured-none c = record { places = refl; excess = refl; code = sym list_code-none }
+
+pub measured-append : (c : ℤ) (xs ys : List ℕ) (m n : Measure) → IsMeasured c xs m → IsMeasured c ys n
+    → IsMeasured c (xs ++ ys) (record { places = m.places + n.places; excess = m.excess +ℤ n.excess; code = m.code + n.code })
+measured-append c xs ys m n h k = record {
+  places = omega (arith, h.places, k.places, length-append xs ys);
+  excess = omega (arith, ints, h.excess, k.excess, excess-append c xs ys);
+  code = omega (arith, h.code, k.code, list_code-append xs ys);
+}
+
+-- without a part of the list
+pub measured-rest : (c : ℤ) (b : ℕ) (xs ys : List ℕ) (m n : Measure) → IsMeasured c (b ∷ (xs ++ ys)) m → IsMeasured c xs n
+    → IsMeasured c (b ∷ ys) (record { places = m.places - n.places; excess = m.excess -ℤ n.excess; code = m.code - n.code })
+unfolding excess
+measured-rest c b xs ys m n h k = record {
+  places = omega (arith, h.places, k.places, length-append xs ys);
+  excess = omega (arith, ints, h.excess, k.excess, excess-append c xs ys);
+  code = omega (arith, h.code, k.code, list_code-append xs ys, list_code-more b (xs ++ ys), list_code-more b ys);
+}
+
+-- an index in its place
+pub measured-insert : (c : ℤ) (a : ℕ) (xs : List ℕ) (m : Measure) → IsMeasured c (a ∷ xs) m → IsMeasured c (insert a xs) m
+unfolding excess
+measured-insert c a xs m h = record {
+  places = omega (arith, h.places, length-insert a xs);
+  excess = omega (arith, ints, h.excess, excess-insert c a xs);
+  code = omega (arith, h.code, list_code-insert a xs, list_code-more a xs);
+}
+
+-- the indices are bytes
+abbrev pub AreBytes : List ℕ → Type 0
+AreBytes = AllByRecursion (λ x. x < 256)
+
+pub bytes-push : (xs : List ℕ) (x : ℕ) → AreBytes xs → x < 256 → AreBytes (xs ++ x ∷ [])
+bytes-push [] x h b = (b, tt)
+bytes-push (y ∷ xs) x h b = (h.0, bytes-push xs x h.1 b)
+
+pub bytes_below : (k m : ℕ) (xs : List ℕ) → m ≤ 256 → IsSortedFrom k m xs → AreBytes xs
+unfolding IsSortedFrom
+bytes_below k m [] l s = tt
+bytes_below k m (x ∷ xs) l s = (omega (arith, l, s.1), bytes_below x m xs l s.2)
+
+pub excess-small : (c : ℤ) (xs : List ℕ) → unsigned_abs c ≤ 99 → AreBytes xs → unsigned_abs (excess c xs) ≤ 354 * length xs
+unfolding excess
+excess-small c [] h b = omega (arith, ints)
+excess-small c (x ∷ xs) h b = omega (arith, ints, h, b.0, excess-small c xs h b.1)
+
+-- a measure of a short list can be added to another
+pub measured-light : (c : ℤ) (xs : List ℕ) (m : Measure) → unsigned_abs c ≤ 99 → AreBytes xs → length xs ≤ 27 → IsMeasured c xs m → IsLight m
+measured-light c xs m h b l k = record {
+  places = omega (arith, l, k.places);
+  excess = omega (arith, ap unsigned_abs k.excess, excess-small c xs h b, l);
+  code = omega (arith, k.code, list_code-small xs, l);
+}

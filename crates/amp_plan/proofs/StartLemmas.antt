@@ -1,0 +1,58 @@
+-- A walk over the splits of a list begins with nothing chosen.
+use Rattle.std.proofs.Common.{◌≡◌, ℕ, zero, suc, ◌+◌, ◌-◌, ◌*◌, ◌<◌, ◌≤◌, ◌^◌, List, [], ◌∷◌, ◌++◌, length, refl, sym, ap, subst, ◌∙◌, arith, lit≤}
+use Rattle.std.specs.Prelude.{ℤ, pos}
+use Rattle.std.specs.List.{AllByRecursion}
+use native.Mathlib.Nat.{pow-le-pow_right}
+use Rattle.airy_math.specs.Keys.{IsSortedFrom}
+use Rattle.airy_math.specs.Splits.{Split, runs, splits}
+use Rattle.airy_index.specs.Choices.{whole_length}
+use Rattle.sparse_tensor.specs.Entries.{looked_up}
+use Rattle.amp_plan.specs.Plans.{Planning, tensors_of}
+use Rattle.amp_plan.specs.Walk.{HasRoom, IsPartOf, genus_part}
+use Rattle.amp_plan.specs.Measures.{IsMeasured, gain, loss}
+use Rattle.amp_plan.specs.Shares.{no_split, listed, choice_part, IsShare, FitsShare, IsChosen}
+use Rattle.amp_plan.specs.declared.share.Share.{Share}
+use Rattle.amp_plan.specs.declared.share.Chosen.{Chosen}
+use Rattle.amp_plan.specs.declared.walk.Pair.{Pair}
+use Rattle.amp_plan.proofs.SplitWalkLemmas.{part_of}
+use Rattle.amp_plan.proofs.ChoiceLemmas.{all-both, choices-all, fits-all}
+use Rattle.amp_plan.proofs.MeasureLemmas.{measured-none}
+use Rattle.amp_plan.proofs.RestLemmas.{AddUp, splits-add, measured-whole, all-standing, listed-runs, length-runs}
+
+sorted-weaken : (k m n : ℕ) (xs : List ℕ) → m ≤ n → IsSortedFrom k m xs → IsSortedFrom k n xs
+unfolding IsSortedFrom
+sorted-weaken k m n [] l s = tt
+sorted-weaken k m n (x ∷ xs) l s = (s.0, omega (arith, l, s.1), sorted-weaken x m n xs l s.2)
+
+-- each split of the list fits the share
+all_fit : (p : Planning) (h : Share) (I : List ℕ) → IsShare p h → HasRoom (tensors_of p) p.bound h.genus I → IsMeasured h.per_n (h.pair.b ∷ I) h.right → AllByRecursion (FitsShare p h) (splits I)
+unfolding tensors_of looked_up
+all_fit p h I is room right =
+    let few : length I ≤ 25 = omega (arith, room.level, is.bound) in
+    let bytes : IsSortedFrom 0 256 I = sorted-weaken 0 p.tensors.dim 256 I (omega (arith, is.dim)) room.sorted in
+    all-both (IsPartOf (tensors_of p) p.bound h.genus h.k) (λ u. AddUp h.per_n u.part u.rest I) (FitsShare p h) (splits I)
+    (λ u part add. record { is_part = part; right = measured-whole h.per_n h.pair.b u.part u.rest I h.right add right })
+    (all-standing (IsPartOf (tensors_of p) p.bound h.genus h.k) [] (splits I) (splits I) refl (λ before after u e. part_of (tensors_of p) p.bound h.genus h.k I before after u room few bytes is.genus e))
+    (splits-add h.per_n I)
+
+pub chosen_first : (p : Planning) (h : Share) (I : List ℕ) (up down : ℕ) → IsShare p h → HasRoom (tensors_of p) p.bound h.genus I → IsMeasured h.per_n (h.pair.b ∷ I) h.right → up ≡ gain h.per_n I → down ≡ loss h.per_n I
+    → IsChosen p h (runs I) (record { part = record { places = 0; excess = pos 0; code = 0 }; ways = 1; gain = up; loss = down }) no_split
+unfolding no_split
+chosen_first p h I up down is room right e f =
+    let few : length I ≤ 25 = omega (arith, room.level, is.bound) in
+    let short : whole_length (runs I) ≤ 25 = omega (arith, few, length-runs I) in
+    let power : 2 ^ whole_length (runs I) ≤ 2 ^ 25 = pow-le-pow_right (lit≤ tt) short in
+    record {
+      part = measured-none h.per_n;
+      ways = refl;
+      gain = e ∙ ap (gain h.per_n) (sym (listed-runs I));
+      loss = f ∙ ap (loss h.per_n) (sym (listed-runs I));
+      fits = fits-all (FitsShare p h) I (all_fit p h I is room right);
+      bytes = tt;
+      few = omega (arith, short);
+      small = omega (arith, power);
+    }
+
+-- the products of a share are those of its genus
+pub share_part : (p : Planning) (h : Share) (I : List ℕ) (g k : ℕ) (pair : Pair) → h.genus ≡ g → h.k ≡ k → h.pair ≡ pair → choice_part p h no_split (runs I) ≡ genus_part p g I pair.a pair.b pair.weight k
+share_part p h I g k pair e f i = choices-all p h I ∙ (λ j. genus_part p (e j) I (i j).a (i j).b (i j).weight (f j))

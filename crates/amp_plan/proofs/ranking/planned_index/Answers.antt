@@ -1,0 +1,7 @@
+use Rattle.amp_plan.specs.Limits.{Tells}
+use Rattle.amp_plan.proofs.LimitLemmas.{limit-memory}
+use Rattle.amp_plan.proofs.ranking.planned_index.Goals as goal
+
+pub returns-in-Err-clause-cause : goal.returns-in-Err-clause-cause
+unfolding Tells
+returns-in-Err-clause-cause c = limit-memory (record { tensors = c.args.tensors.now; bound = c.args.bound }) c.requires.some c.requires.most

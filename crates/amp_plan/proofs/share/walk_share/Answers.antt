@@ -1,0 +1,45 @@
+use Rattle.std.proofs.Common.{arith, rules, sym, ap, subst, ◌∙◌, ◌≡◌, ◌∷◌}
+use Rattle.airy_math.specs.Splits.{runs}
+use Rattle.airy_math.specs.Shapes.{per_n}
+use Rattle.amp_plan.specs.Plans.{tensors_of}
+use Rattle.amp_plan.specs.Ranked.{NameAllowed, Takes}
+use Rattle.amp_plan.specs.Walk.{HasRoom, genus_part}
+use Rattle.amp_plan.specs.Measures.{IsMeasured, gain, loss}
+use Rattle.amp_plan.specs.Shares.{no_split, choice_part, IsChosen}
+use Rattle.amp_plan.specs.declared.share.Chosen.{Chosen}
+use Rattle.std.specs.Prelude.{pos}
+use Rattle.amp_plan.proofs.StartLemmas.{chosen_first, share_part}
+use Rattle.amp_plan.proofs.share.walk_share.Goals as goal
+
+pub walk_choices-requires-clause-go_on : goal.walk_choices-requires-clause-go_on
+walk_choices-requires-clause-go_on g c =
+    let p = c.args.ranking.now in
+    let h = c.of-share.result in
+    let I = c.args.rest.now.list.items in
+    let room : HasRoom (tensors_of p) p.bound h.genus I = subst (λ n. HasRoom (tensors_of p) p.bound n I) (sym c.of-share.ensures.genus) c.requires.room in
+    let law = c.of-share.ensures.share.law in
+    let right : IsMeasured h.per_n (h.pair.b ∷ I) h.right = subst (λ z. IsMeasured z (h.pair.b ∷ I) h.right) (sym law) (subst (λ q. IsMeasured (per_n p.tensors.shape) (q.b ∷ I) h.right) (sym c.of-share.ensures.pair) c.of-share.ensures.right) in
+    let begun : Chosen = record { part = record { places = 0; excess = pos 0; code = 0 }; ways = 1; gain = c.args.rest.now.gain; loss = c.args.rest.now.loss } in
+    let first = chosen_first p h I c.args.rest.now.gain c.args.rest.now.loss c.of-share.ensures.share room right (c.requires.rest.gain ∙ ap (λ z. gain z I) (sym law)) (c.requires.rest.loss ∙ ap (λ z. loss z I) (sym law)) in
+    let runs : c.as_slice.result.now ≡ runs I = c.as_slice.ensures.value ∙ c.requires.rest.runs in
+    let same = share_part p h I c.args.genus c.args.k c.args.pair.now c.of-share.ensures.genus c.of-share.ensures.k c.of-share.ensures.pair in
+    record {
+      split = no_split;
+      chosen = subst (λ l. IsChosen p h l begun no_split) (sym runs) first;
+      allowed = subst (NameAllowed (g.V.TermVisitor.allows c.args.visitor.now)) (sym (ap (choice_part p h no_split) runs ∙ same)) c.requires.allowed;
+    }
+
+pub returns : goal.returns
+returns g c =
+    let p = c.args.ranking.now in
+    let h = c.of-share.result in
+    let I = c.args.rest.now.list.items in
+    let room : HasRoom (tensors_of p) p.bound h.genus I = subst (λ n. HasRoom (tensors_of p) p.bound n I) (sym c.of-share.ensures.genus) c.requires.room in
+    let law = c.of-share.ensures.share.law in
+    let right : IsMeasured h.per_n (h.pair.b ∷ I) h.right = subst (λ z. IsMeasured z (h.pair.b ∷ I) h.right) (sym law) (subst (λ q. IsMeasured (per_n p.tensors.shape) (q.b ∷ I) h.right) (sym c.of-share.ensures.pair) c.of-share.ensures.right) in
+    let begun : Chosen = record { part = record { places = 0; excess = pos 0; code = 0 }; ways = 1; gain = c.args.rest.now.gain; loss = c.args.rest.now.loss } in
+    let first = chosen_first p h I c.args.rest.now.gain c.args.rest.now.loss c.of-share.ensures.share room right (c.requires.rest.gain ∙ ap (λ z. gain z I) (sym law)) (c.requires.rest.loss ∙ ap (λ z. loss z I) (sym law)) in
+    let runs : c.as_slice.result.now ≡ runs I = c.as_slice.ensures.value ∙ c.requires.rest.runs in
+    let same = share_part p h I c.args.genus c.args.k c.args.pair.now c.of-share.ensures.genus c.of-share.ensures.k c.of-share.ensures.pair in
+    subst (λ ts. Takes g.V.TermVisitor.allows g.V.TermVisitor.state g.V.TermVisitor.step ts c.args.visitor.now c.walk_choices.new.visitor) (ap (choice_part p h no_split) runs ∙ same)
+    (c.walk_choices.ensures no_split (subst (λ l. IsChosen p h l begun no_split) (sym runs) first))

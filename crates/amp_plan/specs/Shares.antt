@@ -1,0 +1,83 @@
+-- The products of a pair of indices with a genus on the left, walked over by how many of each distinct index the part takes.
+use Prim.Native.Nat.{ℕ, ◌+◌, ◌*◌, ◌-◌, ◌≤◌, ◌<◌, ◌^◌}
+use mathlib.Core.Path.{◌≡◌}
+use mathlib.Core.Bool.{Bool, ◌&&◌}
+use mathlib.Core.List.{List, [], ◌∷◌, ◌++◌}
+use lib.ListN.{length, replicate}
+use lib.IntN.{ℤ, pos, ◌+ℤ◌, ◌-ℤ◌}
+use lib.Signed.{le_z}
+use Rattle.std.specs.Int.RustNames.{unsigned_abs}
+use Rattle.std.specs.List.{AllByRecursion}
+use Rattle.airy_math.specs.Shapes.{per_n}
+use Rattle.airy_math.specs.Splits.{Split}
+use Rattle.airy_math.specs.Sums.{binomial, each}
+use Rattle.airy_index.specs.Choices.{all_splits, whole_length}
+use Rattle.amp_plan.specs.Plans.{Planning, tensors_of}
+use Rattle.amp_plan.specs.Ranked.{RankedTerm, NameAllowed}
+use Rattle.amp_plan.specs.Walk.{IsPartOf, split_part}
+use Rattle.amp_plan.specs.Measures.{IsMeasured, IsLight, gain, loss, law_excess}
+use Rattle.amp_plan.specs.declared.share.Share.{Share}
+use Rattle.amp_plan.specs.declared.share.Chosen.{Chosen}
+
+-- the split, with the other one's lists behind its own
+unfoldable pub behind : Split → Split → Split
+behind s t = record { part = s.part ++ t.part; rest = s.rest ++ t.rest; ways = s.ways * t.ways }
+
+-- the split, with t of the copies of an index in its part and the others in its rest
+unfoldable pub more_of : Split → ℕ × ℕ → ℕ → Split
+more_of s r t = record { part = s.part ++ replicate t r.0; rest = s.rest ++ replicate (r.1 - t) r.0; ways = s.ways * binomial r.1 t }
+
+-- nothing is chosen
+unfoldable pub no_split : Split
+no_split = record { part = []; rest = []; ways = 1 }
+
+-- the list in which each index stands as often as it says
+unfoldable pub listed : List (ℕ × ℕ) → List ℕ
+listed [] = []
+listed (r ∷ rs) = replicate r.1 r.0 ++ listed rs
+
+-- the products of all splits that begin with the one that was chosen, and go on with the runs that are left
+unfoldable pub choice_part : Planning → Share → Split → List (ℕ × ℕ) → List RankedTerm
+choice_part p h s rs = each (all_splits rs) (λ t. split_part p h.genus h.pair.a h.pair.b h.pair.weight h.k (behind s t))
+
+-- whether the part's excess can come between the share's two numbers
+unfoldable pub can_reach : Share → Chosen → Bool
+can_reach h c = le_z h.low (c.part.excess +ℤ pos c.gain) && le_z c.part.excess (h.high +ℤ pos c.loss)
+
+-- A share of a plan's pivot sum: both keys are covered only where the excess of the part is from low to high.
+pub record IsShare (p : Planning) (h : Share) : Type 0 where
+  pub law : h.per_n ≡ per_n p.tensors.shape
+  pub genus : h.k ≤ h.genus
+  pub a : h.pair.a < p.tensors.dim
+  pub b : h.pair.b < p.tensors.dim
+  pub left : IsMeasured h.per_n (h.pair.a ∷ []) h.left
+  pub high : h.high ≡ law_excess p.tensors.shape h.k -ℤ h.left.excess
+  pub low : h.low ≡ h.right.excess -ℤ law_excess p.tensors.shape (h.genus - h.k)
+  pub dim : p.tensors.dim ≤ 72
+  pub bound : p.bound ≤ 24
+  pub small_law : unsigned_abs h.per_n ≤ 99
+  pub small_high : unsigned_abs h.high ≤ 2 ^ 50
+  pub light_left : IsLight h.left
+  pub light_right : IsLight h.right
+
+-- A split of the indices of a share.
+pub record FitsShare (p : Planning) (h : Share) (t : Split) : Type 0 where
+  pub is_part : IsPartOf (tensors_of p) p.bound h.genus h.k t
+  pub right : IsMeasured h.per_n (h.pair.b ∷ (t.part ++ t.rest)) h.right
+
+-- The split is one that was chosen from the first runs, and these are its numbers.
+pub record IsChosen (p : Planning) (h : Share) (left : List (ℕ × ℕ)) (c : Chosen) (s : Split) : Type 0 where
+  pub part : IsMeasured h.per_n s.part c.part
+  pub ways : c.ways ≡ s.ways
+  pub gain : c.gain ≡ gain h.per_n (listed left)
+  pub loss : c.loss ≡ loss h.per_n (listed left)
+  pub fits : AllByRecursion (λ t. FitsShare p h (behind s t)) (all_splits left)
+  pub bytes : AllByRecursion (λ x. x < 256) s.part
+  pub few : length s.part + whole_length left ≤ 25
+  pub small : s.ways * 2 ^ whole_length left ≤ 2 ^ 25
+
+-- The numbers are those of a split that was chosen, and each rank that its products name is allowed.
+pub record CanGoOn (allows : ℕ → Type 0) (p : Planning) (h : Share) (left : List (ℕ × ℕ)) (c : Chosen) : Type 0 where
+  pub split : Split
+  pub chosen : IsChosen p h left c split
+  pub allowed : NameAllowed allows (choice_part p h split left)

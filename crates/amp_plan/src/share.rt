@@ -1,0 +1,228 @@
+ghost use Rattle.std.specs.Prelude.{◌≡◌, ◌≤◌, ◌<◌, ◌+◌, ◌-◌, ◌*◌, ◌/◌, ◌^◌, ◌+ℤ◌, ◌-ℤ◌, ◌∷◌, [], ℕ, pos, true, length};
+ghost use Rattle.std.specs.Int.RustNames.{unsigned_abs};
+ghost use Rattle.airy_math.specs.Cuts.{natural};
+ghost use Rattle.airy_math.specs.Shapes.{per_n as shape_per_n};
+ghost use Rattle.airy_math.specs.Splits.{Split};
+ghost use Rattle.amp_plan.specs.Plans.{tensors_of, keys_of};
+ghost use Rattle.amp_plan.specs.Ranked.{NameAllowed, Takes};
+ghost use Rattle.amp_plan.specs.Rests.{IsRest};
+ghost use Rattle.amp_plan.specs.Walk.{HasRoom, genus_part};
+ghost use Rattle.amp_plan.specs.Measures.{IsLight, IsMeasured};
+ghost use Rattle.amp_plan.specs.Shares.{can_reach as reached, choice_part, IsShare, IsChosen, CanGoOn};
+
+use crate::finding::find_live;
+use crate::measure::{Measure, above_zero, law_excess, per_n};
+use crate::ranking::Ranking;
+use crate::rest::Rest;
+use crate::walk::{Pair, TermVisitor};
+use key_index::KeyIndex;
+
+/// The products of a pair of indices with the genus k on the left: what its walk over splits needs.
+#[derive(Clone, Copy)]
+pub(crate) struct Share {
+    pub(crate) genus: u8,
+    pub(crate) k: u8,
+    pub(crate) pair: Pair,
+    /// The law's number for each index.
+    pub(crate) per_n: i64,
+    /// The measure of the first index of the pair.
+    pub(crate) left: Measure,
+    /// The measure of all indices that are split, with the second index of the pair.
+    pub(crate) right: Measure,
+    /// Both keys are covered only where the excess of the part is from this number
+    pub(crate) low: i64,
+    /// to this one.
+    pub(crate) high: i64,
+}
+
+/// A part that was chosen from the first runs: its measure, the number of ways, and how far its excess can still rise
+/// and fall.
+#[derive(Clone, Copy)]
+pub(crate) struct Chosen {
+    pub(crate) part: Measure,
+    pub(crate) ways: u64,
+    pub(crate) gain: u32,
+    pub(crate) loss: u32,
+}
+
+impl Share {
+    /// Whether the part's excess can come between the two numbers.
+    #[tactic(auto, unfolding(crate::specs::Shares::can_reach))]
+    fn can_reach(&self, chosen: &Chosen) -> bool
+        requires high { unsigned_abs self.now.high ≤ 2 ^ 50 }
+        requires light { IsLight chosen.now.part }
+        ensures { result ≡ reached self.now chosen.now }
+    {
+        self.low <= chosen.part.excess + i64::from(chosen.gain)
+            && chosen.part.excess <= self.high + i64::from(chosen.loss)
+    }
+}
+
+impl Chosen {
+    /// The same before a run is chosen from, whose index has this measure: what the run can change is no longer to come.
+    fn before(&self, item: &Measure, count: u8) -> Chosen
+        requires item { IsLight item.now }
+        requires gain { count * natural item.now.excess ≤ self.now.gain }
+        requires loss { count * natural (pos 0 -ℤ item.now.excess) ≤ self.now.loss }
+        ensures { result ≡ record { part = self.now.part; ways = self.now.ways; gain = self.now.gain - count * natural item.now.excess; loss = self.now.loss - count * natural (pos 0 -ℤ item.now.excess) } }
+    {
+        let count = u32::from(count);
+        Chosen {
+            gain: self.gain - count * above_zero(item.excess),
+            loss: self.loss - count * above_zero(-item.excess),
+            ..*self
+        }
+    }
+
+    /// The part with one more of the index of a run, of which so many are taken.
+    fn one_more(&self, item: &Measure, count: u8, taken: u8) -> Chosen
+        requires part { IsLight self.now.part }
+        requires item { IsLight item.now }
+        requires taken { taken ≤ count }
+        requires short { count ≤ 25 }
+        requires ways { self.now.ways ≤ 2 ^ 25 }
+        ensures { result ≡ record self.now { part = record { places = self.now.part.places + item.now.places; excess = self.now.part.excess +ℤ item.now.excess; code = self.now.part.code + item.now.code }; ways = self.now.ways * (count - taken) / (taken + 1) } }
+    {
+        Chosen {
+            part: self.part.plus(*item),
+            ways: self.ways * u64::from(count - taken) / (u64::from(taken) + 1),
+            ..*self
+        }
+    }
+}
+
+/// Hands over the products of all splits that begin with the part that was chosen, and go on with the runs that are left.
+/// A part whose excess can't come where both keys are covered is passed over.
+pub(crate) fn walk_choices<V: TermVisitor>(
+    ranking: &Ranking,
+    index: &KeyIndex,
+    share: &Share,
+    left: &[(u8, u8)],
+    chosen: &Chosen,
+    visitor: &mut V,
+)
+    requires keys { index.now.keys ≡ keys_of ranking.now }
+    requires exact { index.now.exact ≡ true }
+    requires share { IsShare ranking.now share.now }
+    requires go_on { CanGoOn (V.allows visitor.old) ranking.now share.now left.now chosen.now }
+    ensures { (s : Split) → IsChosen ranking.now share.now left.now chosen.now s → Takes V.allows V.state V.step (choice_part ranking.now share.now s left.now) visitor.old visitor.new }
+{
+    if !share.can_reach(chosen) {
+        return;
+    }
+    let Some((run, others)) = left.split_first() else {
+        walk_chosen(ranking, index, share, chosen, visitor);
+        return;
+    };
+    let item = Measure::of(index, share.per_n, run.0);
+    let mut next = chosen.before(&item, run.1);
+    let mut taken = 0;
+    loop {
+        walk_choices(ranking, index, share, others, &next, visitor);
+        if taken == run.1 {
+            return;
+        }
+        next = next.one_more(&item, run.1, taken);
+        taken += 1;
+    }
+}
+
+/// Hands over the product of a split whose part has been chosen, where both its keys are live.
+fn walk_chosen<V: TermVisitor>(
+    ranking: &Ranking,
+    index: &KeyIndex,
+    share: &Share,
+    chosen: &Chosen,
+    visitor: &mut V,
+)
+    requires keys { index.now.keys ≡ keys_of ranking.now }
+    requires exact { index.now.exact ≡ true }
+    requires share { IsShare ranking.now share.now }
+    requires go_on { CanGoOn (V.allows visitor.old) ranking.now share.now [] chosen.now }
+    ensures { (s : Split) → IsChosen ranking.now share.now [] chosen.now s → Takes V.allows V.state V.step (choice_part ranking.now share.now s []) visitor.old visitor.new }
+{
+    let left = share.left.plus(chosen.part);
+    let Some(left) = find_live(ranking, index, share.k, left) else {
+        return;
+    };
+    let right = share.right.minus(chosen.part);
+    let Some(right) = find_live(ranking, index, share.genus - share.k, right) else {
+        return;
+    };
+    visitor.twice(share.pair.weight, chosen.ways, left, right);
+}
+
+impl Share {
+    /// The share of a pair and a genus in the products of what is left of a key.
+    fn of(ranking: &Ranking, genus: u8, rest: &Rest, pair: &Pair, k: u8) -> Share
+        requires rest { IsRest (shape_per_n ranking.now.tensors.shape) rest.now }
+        requires few { length rest.now.list.items ≤ 25 }
+        requires a { pair.now.a < ranking.now.tensors.dim }
+        requires b { pair.now.b < ranking.now.tensors.dim }
+        requires k { k ≤ genus }
+        ensures share { IsShare ranking.now result }
+        ensures genus { result.genus ≡ genus }
+        ensures k { result.k ≡ k }
+        ensures pair { result.pair ≡ pair.now }
+        ensures right { IsMeasured (shape_per_n ranking.now.tensors.shape) (pair.now.b ∷ rest.now.list.items) result.right }
+    {
+        ranking.is_small();
+        ranking.tensors().are_sound();
+        let shape = ranking.tensors().shape();
+        let per_n = per_n(shape);
+        let left = Measure::of(ranking.index(), per_n, pair.a);
+        let right = Measure::of(ranking.index(), per_n, pair.b).plus(rest.whole);
+        Share {
+            genus,
+            k,
+            pair: *pair,
+            per_n,
+            left,
+            right,
+            low: right.excess - law_excess(shape, genus - k),
+            high: law_excess(shape, k) - left.excess,
+        }
+    }
+}
+
+/// Hands over the products of a pair with the genus k on the left, by codes.
+pub(crate) fn walk_share<V: TermVisitor>(
+    ranking: &Ranking,
+    index: &KeyIndex,
+    genus: u8,
+    rest: &Rest,
+    pair: &Pair,
+    k: u8,
+    visitor: &mut V,
+)
+    requires keys { index.now.keys ≡ keys_of ranking.now }
+    requires exact { index.now.exact ≡ true }
+    requires rest { IsRest (shape_per_n ranking.now.tensors.shape) rest.now }
+    requires room { HasRoom (tensors_of ranking.now) ranking.now.bound genus rest.now.list.items }
+    requires a { pair.now.a < ranking.now.tensors.dim }
+    requires b { pair.now.b < ranking.now.tensors.dim }
+    requires k { k ≤ genus }
+    requires allowed { NameAllowed (V.allows visitor.old) (genus_part ranking.now genus rest.now.list.items pair.now.a pair.now.b pair.now.weight k) }
+    ensures { Takes V.allows V.state V.step (genus_part ranking.now genus rest.now.list.items pair.now.a pair.now.b pair.now.weight k) visitor.old visitor.new }
+{
+    ranking.is_small();
+    let share = Share::of(ranking, genus, rest, pair, k);
+    let chosen = Chosen {
+        part: Measure {
+            places: 0,
+            excess: 0,
+            code: 0,
+        },
+        ways: 1,
+        gain: rest.gain,
+        loss: rest.loss,
+    };
+    walk_choices(
+        ranking,
+        index,
+        &share,
+        rest.runs.as_slice(),
+        &chosen,
+        visitor,
+    );
+}

@@ -1,0 +1,20 @@
+use Rattle.std.proofs.Common.{◌≡◌, ◌+◌, ◌-◌, subst, arith, rules, ℕ}
+use Rattle.std.specs.Prelude.{IfOk}
+use Rattle.airy_math.specs.Named as named
+use Rattle.airy_math.specs.Families.{top_bgw}
+use Rattle.named_families.specs.Families.{StandsFor, top}
+use Rattle.named_families.proofs.families.bgw.Goals as goal
+
+pub overflow_add-top_of : goal.overflow_add-top_of
+unfolding top top_bgw
+overflow_add-top_of c = let e = c.top_of.ensures in search rules
+
+pub bgw_cut-requires-clause-most : goal.bgw_cut-requires-clause-most
+unfolding top top_bgw
+bgw_cut-requires-clause-most c = let e = c.top_of.ensures in omega arith
+
+pub returns : goal.returns
+unfolding top
+returns c =
+    let e : c.top_of.result + 1 - 1 ≡ top_bgw c.args.bound = omega (arith, c.top_of.ensures) in
+    subst (λ (m : ℕ). IfOk c.bgw_cut.result (λ t. StandsFor t (named.bgw m))) e c.bgw_cut.ensures

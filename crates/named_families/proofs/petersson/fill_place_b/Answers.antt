@@ -1,0 +1,54 @@
+use Rattle.std.proofs.Common.{◌≡◌, ◌+◌, ◌*◌, ◌-◌, sym, ap, subst, ◌∙◌, arith, rules}
+use Rattle.std.specs.Prelude.{Some, None}
+use Rattle.std.proofs.lemmas.Result.{err_from_is_err_and}
+use Rattle.airy_math.specs.Rational.{whole}
+use Rattle.airy_math.specs.Obtained.{obtained_product}
+use Rattle.sparse_tensor.specs.Entries.{Entries}
+use Rattle.named_families.specs.Families.{Names}
+use Rattle.named_families.specs.Filling.{FillsWpB}
+use Rattle.named_families.specs.Steps.{obtained_number}
+use Rattle.named_families.proofs.FillLemmas.{wanting, at_ok, others-b}
+use Rattle.named_families.proofs.StepLemmas.{held}
+use Rattle.named_families.proofs.PeterssonLaw.{place-fine, place-refused, room-b, next-b}
+use Rattle.named_families.proofs.petersson.fill_place_b.Goals as goal
+
+pub returns-in_default-clause-over : goal.returns-in_default-clause-over
+unfolding Names
+returns-in_default-clause-over c =
+    let e = c.args.k + 1 - (c.args.i + c.args.j) in
+    let odd : c.whole.result ≡ whole (2 * c.args.j + 1) = unfold whole in search rules in
+    let number : obtained_number e ≡ Some c.index-numbers-e.result = held obtained_number (c.args.most + 1) c.args.numbers.now e c.index-numbers-e.result c.requires.numbers (omega arith) (omega arith) c.index-numbers-e.is in
+    let none : obtained_product c.whole.result c.index-numbers-e.result ≡ None = search rules in
+    place-refused c.args.most c.args.i c.args.j c.args.k c.index-numbers-e.result c.requires.reached c.requires.within number (ap (λ x. obtained_product x c.index-numbers-e.result) (sym odd) ∙ none)
+
+pub unless_wanting-requires : goal.unless_wanting-requires
+unless_wanting-requires c =
+    let put = room-b c.args.most c.args.i c.args.j c.args.k c.args.tensors.now c.in-Some.value c.are_sound.ensures.entries c.requires.shape c.requires.before c.requires.first c.requires.second c.requires.third c.requires.reached in
+    wanting c.put_b.result (λ h. put.allowed.inside (c.put_b.ensures.index.0 h)) (λ h. put.allowed.graded (c.put_b.ensures.grade.0 h)) (λ h. put.allowed.once (c.put_b.ensures.twice.0 h))
+
+pub returns-in_err-unless_wanting-clause-over : goal.returns-in_err-unless_wanting-clause-over
+unfolding Names
+returns-in_err-unless_wanting-clause-over c = let p = err_from_is_err_and c.from_residual.result c.from_residual.ensures.1 in rw (p.1, p.2) tt
+
+pub returns-clause-filled : goal.returns-clause-filled
+returns-clause-filled c =
+    let e = c.args.k + 1 - (c.args.i + c.args.j) in
+    let odd : c.whole.result ≡ whole (2 * c.args.j + 1) = unfold whole in search rules in
+    let number : obtained_number e ≡ Some c.index-numbers-e.result = held obtained_number (c.args.most + 1) c.args.numbers.now e c.index-numbers-e.result c.requires.numbers (omega arith) (omega arith) c.index-numbers-e.is in
+    let some : obtained_product c.whole.result c.index-numbers-e.result ≡ Some c.in-Some.value = search rules in
+    let put = room-b c.args.most c.args.i c.args.j c.args.k c.args.tensors.now c.in-Some.value c.are_sound.ensures.entries c.requires.shape c.requires.before c.requires.first c.requires.second c.requires.third c.requires.reached in
+    subst (λ (u : Entries). FillsWpB c.args.most c.args.i c.args.j (c.args.k + 1) u)
+    (sym (at_ok c.put_b.result c.in_ok-unless_wanting.ensures c.put_b.ensures.put))
+    (next-b c.args.most c.args.i c.args.j c.args.k c.args.tensors.now c.in-Some.value c.index-numbers-e.result put c.requires.before c.requires.reached c.requires.within number (ap (λ x. obtained_product x c.index-numbers-e.result) (sym odd) ∙ some))
+
+pub returns-clause-others : goal.returns-clause-others
+returns-clause-others c =
+    subst (λ (u : Entries). u ≡ record c.args.tensors.now { b = u.b }) (sym (at_ok c.put_b.result c.in_ok-unless_wanting.ensures c.put_b.ensures.put)) (others-b c.args.tensors.now c.args.i c.args.j c.args.k c.in-Some.value)
+
+pub returns-clause-obtained : goal.returns-clause-obtained
+returns-clause-obtained c =
+    let e = c.args.k + 1 - (c.args.i + c.args.j) in
+    let odd : c.whole.result ≡ whole (2 * c.args.j + 1) = unfold whole in search rules in
+    let number : obtained_number e ≡ Some c.index-numbers-e.result = held obtained_number (c.args.most + 1) c.args.numbers.now e c.index-numbers-e.result c.requires.numbers (omega arith) (omega arith) c.index-numbers-e.is in
+    let some : obtained_product c.whole.result c.index-numbers-e.result ≡ Some c.in-Some.value = search rules in
+    place-fine c.args.most c.args.i c.args.j c.args.k c.index-numbers-e.result c.in-Some.value c.requires.reached c.requires.within number (ap (λ x. obtained_product x c.index-numbers-e.result) (sym odd) ∙ some)
