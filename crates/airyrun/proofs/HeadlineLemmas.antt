@@ -1,18 +1,15 @@
 -- A printed table has the headline, and two index orders that differ leave no solution.
-use Rattle.std.proofs.Common.{◌≡◌, ℕ, ◌<◌, refl, arith, List}
+use Rattle.std.proofs.Common.{◌≡◌, ℕ, ◌<◌, refl, arith}
 use Rattle.std.specs.Prelude.{Bool, true, false, cond, Option, Some, None}
 use Rattle.airy_math.specs.Keys.{Key}
-use Rattle.airy_math.specs.declared.Shape.{Shape}
 use Rattle.airy_math.specs.Rational.{ℚ}
 use Rattle.airy_math.specs.Series.{Series}
 use Rattle.airy_math.specs.Solutions.{Solves}
 use Rattle.airy_math.specs.Planned.{planned}
 use Rattle.airy_math.specs.Jobs.{Structure, IsSound, planned_tensors}
 use Rattle.amp_plan.specs.Limits.{Limit, Within, PassesBound, PassesCells, PassesNeeds, limit}
-use Rattle.amp_terms.specs.declared.Outcome.{Outcome}
-use Rattle.amp_terms.specs.Outcomes.{outcomes}
 use Rattle.amp_terms.specs.Tables.{full_table}
-use Rattle.series_law.specs.Check.{Verdict, Solution, NotValue, Overflow, Orders, check}
+use Rattle.series_law.specs.Check.{Verdict, Solution, NotValue, Overflow, Orders}
 use Rattle.series_law.specs.Jobs.{JobUniquenessLaw, JobCheckedLaw}
 use Rattle.airyrun.specs.Report.{Report, bound_refused}
 use Rattle.airyrun.specs.Tables.{is_bound, making_over, making_report, table_report, plan_report, cells_report, checked_report, verdict_of, has_letter}

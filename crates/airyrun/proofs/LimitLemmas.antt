@@ -1,5 +1,5 @@
 -- Tensors with the same entries below dim have plans with the same limits.
-use Rattle.std.proofs.Common.{◌≡◌, ℕ, zero, suc, ◌+◌, ◌<◌, ◌≤◌, refl, sym, ap, ap₂, ◌∙◌, subst, arith, List, [], ◌∷◌, length, map}
+use Rattle.std.proofs.Common.{◌≡◌, ℕ, zero, suc, ◌+◌, ◌<◌, ◌≤◌, refl, sym, ap, ap₂, ◌∙◌, arith, List, ◌∷◌, length, map}
 use Rattle.airy_math.specs.Keys.{Key}
 use Rattle.airy_math.specs.Sums.{below, count_from, keep}
 use Rattle.airy_math.specs.Tensors.{Tensors}
@@ -8,7 +8,7 @@ use Rattle.airy_math.specs.Planned.{planned, IsPlanned}
 use Rattle.airy_math.specs.Ranks.{place_of, key_at, PlanLaw}
 use Rattle.airy_math.specs.BelowDim.{SameBelowDim}
 use Rattle.amp_plan.specs.Needs.{has, named_ranks, needs_rank, needed, need_counts, first_past}
-use Rattle.amp_plan.specs.Limits.{Limit, PassesBound, PassesCells, limit, past, level_at}
+use Rattle.amp_plan.specs.Limits.{PassesBound, PassesCells, limit, past, level_at}
 use Rattle.std.specs.Prelude.{cond, ◌&&◌}
 use lib.Dec.{leb}
 

@@ -1,5 +1,5 @@
 -- What is printed of stored tensors is what is printed of those that they stand for.
-use Rattle.std.proofs.Common.{subst, ◌≡◌, ◌⊎◌, inl, inr, ℕ, refl, sym, ap, ◌∙◌, false, IsTrue, cond, true, Bool}
+use Rattle.std.proofs.Common.{subst, ◌≡◌, ◌⊎◌, inl, inr, ℕ, refl, sym, ap, ◌∙◌, false, cond, true, Bool}
 use Rattle.std.specs.Prelude.{List, map, Option, Some, None}
 use Rattle.airy_math.specs.Keys.{Key}
 use Rattle.airy_math.specs.declared.Shape.{Shape}
@@ -14,7 +14,7 @@ use Rattle.airyrun.proofs.LimitLemmas.{limit_same}
 use Rattle.series_law.specs.SameTables.{SameTablesLaw}
 use Rattle.sparse_tensor.specs.Entries.{Entries, looked_up}
 use Rattle.amp_plan.specs.Plans.{Planning, keys_of, tensors_of}
-use Rattle.amp_plan.specs.Limits.{Limit, Within, PassesBound, PassesCells, PassesNeeds, limit, limit_of, Tells}
+use Rattle.amp_plan.specs.Limits.{Limit, Within, limit, limit_of, Tells}
 use Rattle.amp_plan.specs.declared.plan.PlanCause.{PlanCause}
 use Rattle.amp_plan.specs.declared.plan.PlanCause.TheVariants as cause
 use Rattle.amp_terms.specs.Tables.{full_table}

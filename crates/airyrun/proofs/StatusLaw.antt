@@ -1,7 +1,7 @@
 -- The status of a run and its cause, both ways.
 use Rattle.std.proofs.Common.{◌≡◌, ◌≢◌, ◌⊎◌, inl, inr, ℕ, ◌≤◌, ◌<◌, ◌++◌, [], arith, refl, sym, ap, ◌∙◌, subst, length, append-nil, IsTrue}
-use Rattle.std.specs.Prelude.{Option, Some, None, Bool, true, false, cond, List, nat_le, min}
-use Rattle.std.specs.Io.KnownBytes.{Appends, Consumes, IsAtEnd}
+use Rattle.std.specs.Prelude.{Option, Some, None, Bool, true, false, cond, List, nat_le}
+use Rattle.std.specs.Io.KnownBytes.{Consumes, IsAtEnd}
 use Rattle.airy_io.specs.Causes.{Rose}
 use Rattle.airy_math.specs.Tensors.{Tensors}
 use Rattle.airy_math.specs.Planned.{planned}
@@ -12,12 +12,11 @@ use Rattle.series_law.specs.Check as check
 use Rattle.sparse_tensor.specs.Entries.{Entries}
 use Rattle.tensor_text.specs.Grammar.{TextReading, Read}
 use Rattle.tensor_text.specs.Grammar as grammar
-use Rattle.tensor_text.specs.Answers.{IsWhole}
 use Rattle.airyrun.specs.Words.{Reading, Named, Text, Table, Probe, Relations, Refused, reading_of}
-use Rattle.airyrun.specs.Report.{Report, word_refused, bound_refused, out_of_memory}
+use Rattle.airyrun.specs.Report.{Report, bound_refused, out_of_memory}
 use Rattle.airyrun.specs.Tables.{has_letter, is_bound, structure_of, making_over, making_report, checked_report, verdict_of, plan_report, cells_report, table_report}
 use Rattle.airyrun.specs.Texts.{read_fault, text_too_long, line_refused}
-use Rattle.airyrun.specs.Run.{Run, Answers, Leads, LeadsToTable, LeadsToRelations, LeadsToClosedTable, LeadsToProbe, LeadsFromText, failed, wanting, long, refused, read, LeadsWithBound, beyond, within, AsksForNoText}
+use Rattle.airyrun.specs.Run.{Run, Answers, Leads, LeadsToTable, LeadsFromText, failed, wanting, long, refused, read, LeadsWithBound, beyond, within, AsksForNoText}
 use Rattle.airyrun.specs.Laws.{of_reading, of_text, closed_table, probed_table, checked_relations, meant, Gives, TakesMemory, HasText, HasCauses, CausesLaw, CompletenessLaw, IsMade, whole_table, Step, TableStepsLaw}
 use Rattle.airyrun.specs.Laws as steps
 use Rattle.airyrun.proofs.RunLemmas.{IsOther, other_table, other_family, other_probe, other_closed_table, other_family_relations, other_text_relations}

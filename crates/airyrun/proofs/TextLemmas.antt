@@ -1,7 +1,7 @@
 -- What a job with a text leads to, from what the reader says and what its tensors lead to.
-use Rattle.std.proofs.Common.{◌≡◌, ◌≢◌, ◌⊎◌, inl, inr, ℕ, refl, sym, ap, subst, ◌∙◌, true, false, arith}
-use Rattle.std.specs.Prelude.{Option, List, Bool, Ok, Err, IsTrue, cond}
-use Rattle.airy_math.specs.Jobs.{Structure, Text, Lettered, IsSound}
+use Rattle.std.proofs.Common.{◌≡◌, inl, inr, ℕ, refl, sym, ap, subst, true, false, arith}
+use Rattle.std.specs.Prelude.{Option, List, Bool, Ok, Err, cond}
+use Rattle.airy_math.specs.Jobs.{Text, Lettered, IsSound}
 use Rattle.airy_math.specs.Relations.{Close}
 use Rattle.sparse_tensor.specs.Entries.{Entries, looked_up}
 use Rattle.sparse_tensor.specs.Grades.{AreSound}
@@ -11,12 +11,11 @@ use Rattle.tensor_text.specs.declared.refusals.TextErr.TheVariants as texts
 use Rattle.airy_relations.specs.declared.verdict.Verdict.{Verdict}
 use Rattle.airy_relations.specs.declared.verdict.Verdict.TheVariants.{Closed, Differs, Over}
 use Rattle.airy_relations.specs.Verdicts.{verdict}
-use Rattle.airyrun.specs.Report.{Report, Ends, EndsOrWants, out_of_memory, bound_refused}
+use Rattle.airyrun.specs.Report.{Report, Ends, EndsOrWants, out_of_memory}
 use Rattle.airyrun.specs.Texts.{text_report}
 use Rattle.airyrun.specs.Closings.{relations_report, closed}
 use Rattle.airyrun.specs.Tables.{is_bound, table_report, stored_report, text_structure}
-use Rattle.airyrun.specs.Headline.{Headline}
-use Rattle.airyrun.specs.Run.{LeadsFromText, failed, wanting, long, refused, read, LeadsWithBound, beyond, within, LeadsToTable, LeadsToProbe, LeadsToClosedTable, LeadsToRelations}
+use Rattle.airyrun.specs.Run.{failed, wanting, long, refused, read, within, LeadsToProbe, LeadsToClosedTable, LeadsToRelations}
 use Rattle.airyrun.specs.Ends.{EndsBy, EndsOfText, EndsWithBound}
 use Rattle.airyrun.proofs.ReportLemmas.{text_stored}
 use Rattle.airyrun.proofs.HeadlineLemmas.{JobLaws, headline_of, unsolvable_of}

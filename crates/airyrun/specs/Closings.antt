@@ -1,6 +1,5 @@
 -- What is written of the five relations.
-use Rattle.std.specs.Prelude.{ℕ, ◌+◌, ◌*◌, List, [], ◌++◌, codes, take, Option, None}
-use Rattle.airy_math.specs.Rational.{ℚ}
+use Rattle.std.specs.Prelude.{ℕ, ◌+◌, ◌*◌, List, ◌++◌, codes, take, Option, None}
 use Rattle.airy_index.specs.Text.{spaced}
 use Rattle.frac128.specs.Fraction.{fraction_text}
 use Rattle.airy_relations.specs.declared.verdict.Rel.{Rel}

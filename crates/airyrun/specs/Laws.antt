@@ -1,12 +1,12 @@
 -- What the answers of a run come to: the exact cause of each status, and completeness.
-use Rattle.std.specs.Prelude.{◌≡◌, ◌≢◌, ◌⊎◌, ℕ, ◌*◌, min, Bool, true, false, cond, IsTrue, List, length, nat_le, Option, Some, None}
+use Rattle.std.specs.Prelude.{◌≡◌, ◌≢◌, ◌⊎◌, ℕ, min, true, false, cond, IsTrue, List, length, nat_le, Some, None}
 use Rattle.std.specs.Io.KnownBytes.{Appends}
 use Rattle.airy_io.specs.Causes.{Rose}
 use Rattle.airy_math.specs.Keys.{Key}
 use Rattle.airy_math.specs.Rational.{ℚ}
 use Rattle.airy_math.specs.Planned.{planned}
 use Rattle.airy_math.specs.Jobs.{Structure, planned_tensors}
-use Rattle.amp_plan.specs.Limits.{Limit, Within, limit}
+use Rattle.amp_plan.specs.Limits.{Within, limit}
 use Rattle.amp_terms.specs.Tables.{full_table}
 use Rattle.series_law.specs.Check.{Solution, NotValue, Overflow, Orders}
 use Rattle.sparse_tensor.specs.Entries.{Entries, looked_up}

@@ -1,6 +1,6 @@
 -- A candidate that is stable and covered is planned, and found by its code.
-use Rattle.std.proofs.Common.{◌≡◌, ℕ, suc, ◌+◌, ◌-◌, ◌*◌, ◌<◌, ◌≤◌, ◌^◌, Bool, true, false, List, [], ◌∷◌, length, get_or, refl, sym, ap, ap₂, subst, ◌∙◌, arith, Option, Some, None}
-use Rattle.std.specs.Prelude.{cond, nat_lt, ◌&&◌, ◌+ℤ◌}
+use Rattle.std.proofs.Common.{◌≡◌, ℕ, ◌+◌, ◌*◌, ◌<◌, ◌≤◌, ◌^◌, Bool, true, false, List, [], ◌∷◌, length, refl, sym, ap, ap₂, ◌∙◌, arith, Option, Some, None}
+use Rattle.std.specs.Prelude.{cond, ◌&&◌, ◌+ℤ◌}
 use Rattle.std.specs.Int.RustNames.{unsigned_abs}
 use Rattle.std.proofs.lemmas.Bool.{lt-ltb, and_from}
 use Rattle.airy_math.specs.Keys.{Key, key_of, insert, euler, stable}
@@ -8,12 +8,12 @@ use Rattle.airy_math.specs.Shapes.{covers, live, per_n}
 use Rattle.airy_math.specs.Planned.{IsPlanned}
 use Rattle.airy_math.specs.Ranks.{ListsPlanned, place_of}
 use Rattle.sparse_tensor.specs.Entries.{looked_up}
-use Rattle.key_index.specs.Codes.{code_of, code_of_genus, code_of_list}
+use Rattle.key_index.specs.Codes.{code_of, code_of_genus}
 use Rattle.key_index.specs.Found.{IsRankOf}
 use Rattle.key_index.proofs.CodeLemmas.{list_code-small, list_code-more, list_code-none, index_code-small}
 use Rattle.amp_plan.specs.declared.measure.Measure.{Measure}
 use Rattle.amp_plan.specs.Plans.{Planning, tensors_of, keys_of, rank_at}
-use Rattle.amp_plan.specs.Measures.{excess, covers_excess, IsMeasured, IsLight, IsCandidate}
+use Rattle.amp_plan.specs.Measures.{covers_excess, IsMeasured, IsLight, IsCandidate}
 use Rattle.amp_plan.specs.Walk.{HasRoom, live_rank}
 use Rattle.amp_plan.proofs.MeasureLemmas.{covers-excess, bytes_below, measured-append, measured-insert, measured-light}
 use Rattle.amp_plan.proofs.RankWalkLemmas.{length-insert, sorted-insert}

@@ -1,9 +1,9 @@
 -- Needs and dependents gathered rank by rank.
-use Rattle.std.proofs.Common.{◌≡◌, ℕ, zero, suc, ◌+◌, ◌-◌, ◌<◌, ◌≤◌, Bool, true, false, ◌||◌, ◌&&◌, List, [], ◌∷◌, ◌++◌, length, map, get_or, refl, sym, ◌∙◌, ap, ap₂, subst, arith, length-append}
+use Rattle.std.proofs.Common.{◌≡◌, ℕ, zero, suc, ◌+◌, ◌-◌, ◌<◌, ◌≤◌, Bool, true, false, ◌||◌, List, [], ◌∷◌, ◌++◌, length, map, get_or, refl, sym, ◌∙◌, ap, ap₂, subst, arith}
 use Rattle.std.specs.Prelude.{cond, Option, Some, None, option_map}
 use lib.Dec.{eqb, ltb}
 use mathlib.Core.Logic.{◌⊎◌, inl, inr}
-use Rattle.std.proofs.lemmas.Bool.{eqb-true, eq-eqb, ne_eqb, cases_eq, cases_lt, lt-ltb, le-ltb}
+use Rattle.std.proofs.lemmas.Bool.{eq-eqb, ne_eqb, cases_eq, cases_lt, lt-ltb, le-ltb}
 use Rattle.airy_math.specs.Sums.{keep, below, count_from}
 use Rattle.airy_math.specs.Keys.{total}
 use Rattle.airy_math.specs.Tensors.{Tensors}
@@ -11,7 +11,7 @@ use Rattle.airy_math.specs.Planned.{planned}
 use Rattle.airy_math.specs.Ranks.{key_at}
 use Rattle.amp_plan.specs.Plans.{Planning, tensors_of, keys_of}
 use Rattle.amp_plan.specs.Needs.{has, needs_rank, needed, resting, need_counts, first_past, edges_of, needs_at, dependents_at}
-use Rattle.amp_plan.specs.Limits.{limit_of, Within, PassesNeeds}
+use Rattle.amp_plan.specs.Limits.{limit_of, PassesNeeds}
 use Rattle.amp_plan.specs.Rows.{AreDistinct, IsRow, ArePushed, AreTurned}
 use Rattle.amp_plan.specs.Marks.{Marks, AreNamed}
 use Rattle.amp_plan.specs.Kept.{IsGraph, AreDependents}

@@ -1,12 +1,11 @@
 -- Keys of lists that are in order.
-use Rattle.std.proofs.Common.{◌≡◌, ℕ, zero, suc, ◌+◌, ◌<◌, ◌≤◌, Bool, true, false, List, [], ◌∷◌, ◌++◌, length, refl, sym, ◌∙◌, ap, subst, arith, append_assoc}
+use Rattle.std.proofs.Common.{◌≡◌, ℕ, ◌≤◌, Bool, true, false, List, [], ◌∷◌, ◌++◌, refl, sym, ◌∙◌, ap, subst, arith, append_assoc}
 use lib.Dec.{leb}
 use Rattle.std.specs.Prelude.{Result, Ok, Err, OnOk, is_ok, cond}
 use Rattle.airy_index.specs.declared.key.KeyErr.{KeyErr}
 use Rattle.airy_index.specs.declared.key.KeyErr.TheVariants.{NoPlace, TooMany, Unstable}
 use Rattle.airy_math.specs.Keys.{insert, ordered, ordered_with, IsSortedFrom}
 use Rattle.airy_math.proofs.KeyLemmas.{append-nil}
-use Rattle.amp_plan.proofs.ListingLemmas.{sorted-front}
 
 pub no_error : (e : KeyErr) → (e ≡ NoPlace → ⊥) → (e ≡ TooMany → ⊥) → (e ≡ Unstable → ⊥) → ⊥
 no_error NoPlace a b c = a refl

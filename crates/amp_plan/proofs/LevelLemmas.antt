@@ -1,17 +1,15 @@
 -- The planned keys of a genus, of an Euler number and of all.
-use Rattle.std.proofs.Common.{◌≡◌, ℕ, zero, suc, ◌+◌, ◌*◌, ◌-◌, ◌/◌, ◌<◌, ◌≤◌, Bool, true, false, ◌&&◌, List, [], ◌∷◌, ◌++◌, length, map, refl, sym, ◌∙◌, ap, ap₂, subst, arith, append_assoc, length-append}
-use lib.Dec.{ltb, leb}
+use Rattle.std.proofs.Common.{◌≡◌, ℕ, suc, ◌+◌, ◌*◌, ◌-◌, ◌<◌, ◌≤◌, Bool, true, false, ◌&&◌, List, [], ◌∷◌, ◌++◌, length, map, refl, sym, ◌∙◌, ap, arith, append_assoc, length-append}
+use lib.Dec.{ltb}
 use Rattle.std.proofs.lemmas.Bool.{lt-ltb}
-use Rattle.airy_math.specs.Keys.{Key, key_of, total, euler}
+use Rattle.airy_math.specs.Keys.{key_of, total}
 use Rattle.airy_math.specs.Shapes.{covers}
-use Rattle.airy_math.specs.Sums.{keep, each, count_from, below}
+use Rattle.airy_math.specs.Sums.{keep, each, count_from}
 use Rattle.airy_math.specs.Tensors.{Tensors}
 use Rattle.airy_math.specs.Planned.{planned, lists_from}
 use Rattle.airy_math.proofs.SumLemmas.{Each, Each-weaken}
-use Rattle.airy_math.proofs.KeyLemmas.{append-nil}
 use Rattle.airy_math.proofs.PlannedLaw.{IsListed, listed}
 use Rattle.amp_plan.specs.declared.window.Window.{Window}
-use Rattle.amp_plan.specs.declared.listing.Listing.{Listing}
 use Rattle.amp_plan.specs.Listing.{is_in, reaching, keys_behind, found, keys_at, level_keys}
 use Rattle.amp_plan.proofs.ListingLemmas.{total-most}
 

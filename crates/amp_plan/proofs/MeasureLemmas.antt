@@ -1,18 +1,16 @@
 -- Measures of lists: they add up, they say what a shape covers, and they are small.
-use Rattle.std.proofs.Common.{◌≡◌, ℕ, zero, suc, ◌+◌, ◌-◌, ◌*◌, ◌<◌, ◌≤◌, ◌^◌, Bool, true, false, List, [], ◌∷◌, ◌++◌, length, length-append, refl, sym, ap, ap₂, subst, ◌∙◌, arith}
-use Rattle.std.specs.Prelude.{ℤ, pos, negsuc, ◌+ℤ◌, ◌-ℤ◌, ◌*ℤ◌, nat_le, ◌&&◌}
+use Rattle.std.proofs.Common.{◌≡◌, ℕ, suc, ◌+◌, ◌-◌, ◌*◌, ◌<◌, ◌≤◌, Bool, true, false, List, [], ◌∷◌, ◌++◌, length, length-append, refl, sym, ap, ap₂, ◌∙◌, arith}
+use Rattle.std.specs.Prelude.{ℤ, pos, ◌+ℤ◌, ◌-ℤ◌, ◌*ℤ◌, nat_le, ◌&&◌}
 use Rattle.std.specs.Int.RustNames.{unsigned_abs}
 use Rattle.std.specs.List.{AllByRecursion}
-use lib.Signed.{le_z, ◌≤ℤ◌}
+use lib.Signed.{le_z}
 use Rattle.std.proofs.lemmas.Int.{ints}
 use Rattle.airy_math.specs.Ints.{*ℤ_distrib}
-use Rattle.airy_math.specs.Cuts.{natural}
 use Rattle.airy_math.specs.Keys.{Key, total, insert, IsSortedFrom}
 use Rattle.airy_math.specs.Shapes.{covers, law_number, eq_z, per_n}
-use Rattle.airy_math.specs.declared.Law.{Law}
 use Rattle.airy_math.specs.declared.Shape.{Shape}
 use Rattle.airy_math.specs.declared.Shape.TheVariants.{All, Exact, AtMost}
-use Rattle.key_index.specs.Codes.{code_of_index, code_of_list}
+use Rattle.key_index.specs.Codes.{code_of_index}
 use Rattle.key_index.proofs.CodeLemmas.{list_code-append, list_code-more, list_code-none, list_code-insert, list_code-small}
 use Rattle.amp_plan.specs.declared.measure.Measure.{Measure}
 use Rattle.amp_plan.specs.Measures.{excess, law_excess, covers_excess, IsMeasured, IsLight}

@@ -1,22 +1,22 @@
 -- The ranks that a key's terms name, marked each once.
-use Rattle.std.proofs.Common.{◌≡◌, ℕ, zero, suc, ◌+◌, ◌-◌, ◌<◌, ◌≤◌, Bool, true, false, ◌||◌, List, [], ◌∷◌, ◌++◌, length, map, get_or, refl, sym, ◌∙◌, ap, ap₂, subst, arith, append_assoc, length-append}
+use Rattle.std.proofs.Common.{◌≡◌, ℕ, ◌<◌, Bool, true, false, ◌||◌, List, [], ◌∷◌, ◌++◌, length, map, get_or, refl, sym, ◌∙◌, ap, ap₂, subst, arith}
 use Rattle.std.specs.Prelude.{cond}
 use lib.Dec.{eqb}
 use mathlib.Core.Logic.{◌⊎◌, inl, inr}
 use Rattle.std.proofs.lemmas.Bool.{eqb-true, eq-eqb, ne_eqb, cases_eq}
-use Rattle.airy_math.specs.Sums.{each, keep, below, count_from}
-use Rattle.airy_math.specs.Keys.{Key, head_or, remove, times}
+use Rattle.airy_math.specs.Sums.{each}
+use Rattle.airy_math.specs.Keys.{Key, head_or, remove}
 use Rattle.airy_math.specs.Tensors.{Tensors}
 use Rattle.airy_math.specs.Terms.{Term, terms, named, needs, StandsIn}
 use Rattle.airy_math.specs.Terms as math
-use Rattle.airy_math.specs.Planned.{planned, IsPlanned}
+use Rattle.airy_math.specs.Planned.{planned}
 use Rattle.airy_math.specs.Ranks.{place_of, key_at, no_key, ListsPlanned}
 use Rattle.airy_math.specs.NeedsFirst.{NeedsComeFirst, ComesFirst}
 use Rattle.std.proofs.lemmas.List.{get_or_read}
 use Rattle.amp_plan.specs.Plans.{Planning, tensors_of, keys_of, rank_at}
 use Rattle.amp_plan.specs.Ranked.{RankedTerm, ranked, ranks_of, all_ranked, after_terms, AreAllowed, NameAllowed}
-use Rattle.amp_plan.specs.Needs.{has, named_ranks, needs_rank, needed, resting}
-use Rattle.amp_plan.specs.Rows.{AreDistinct, IsRow}
+use Rattle.amp_plan.specs.Needs.{has, named_ranks, needs_rank}
+use Rattle.amp_plan.specs.Rows.{AreDistinct}
 use Rattle.amp_plan.specs.Marks.{Marks, marked, marked_term, with_new, with_all_new, AreNamed}
 use Rattle.amp_plan.proofs.RowLemmas.{has-append, has-one}
 use Rattle.amp_plan.proofs.MarkLemmas.{marked-append, marked-nil}

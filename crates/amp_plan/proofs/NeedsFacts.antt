@@ -1,9 +1,9 @@
 -- What the needs of a plan are: lower ranks, of the keys that are named, and the converse of the dependents.
-use Rattle.std.proofs.Common.{◌≡◌, ℕ, zero, suc, ◌+◌, ◌<◌, ◌≤◌, Bool, true, false, ◌||◌, ◌&&◌, List, [], ◌∷◌, length, map, get_or, refl, sym, ◌∙◌, ap, subst, arith}
+use Rattle.std.proofs.Common.{◌≡◌, ℕ, zero, suc, ◌<◌, ◌≤◌, Bool, true, false, ◌||◌, ◌&&◌, List, [], ◌∷◌, length, map, get_or, refl, sym, ◌∙◌, ap, subst, arith}
 use Rattle.std.specs.Prelude.{cond}
 use lib.Dec.{eqb, ltb}
 use mathlib.Core.Logic.{◌⊎◌, inl, inr}
-use Rattle.std.proofs.lemmas.Bool.{eq-eqb, ne_eqb, cases_eq, cases_order, ltb-true, eqb-true, and_parts}
+use Rattle.std.proofs.lemmas.Bool.{eq-eqb, ne_eqb, cases_eq, cases_order, ltb-true, eqb-true}
 use Rattle.airy_math.specs.Sums.{keep, below, count_from}
 use Rattle.airy_math.specs.Keys.{Key, before, euler}
 use Rattle.airy_math.specs.Levels.{euler_of, Ascends}
@@ -12,7 +12,6 @@ use Rattle.airy_math.specs.Tensors.{Tensors}
 use Rattle.airy_math.specs.Terms.{needs, StandsIn}
 use Rattle.airy_math.specs.Planned.{planned}
 use Rattle.airy_math.specs.Ranks.{place_of, key_at, no_key, ListsPlanned}
-use Rattle.amp_plan.specs.Rows.{IsRow}
 use Rattle.amp_plan.specs.Needs.{has, named_ranks, needs_rank, needed, resting, Climbs, AreNeeds}
 use Rattle.amp_plan.proofs.GraphLemmas.{keep-row, has-below}
 

@@ -1,5 +1,5 @@
 -- The parts in which the terms are walked over are the terms.
-use Rattle.std.proofs.Common.{◌≡◌, ℕ, suc, zero, ◌+◌, ◌-◌, ◌*◌, ◌<◌, ◌≤◌, Bool, true, false, List, [], ◌∷◌, ◌++◌, map, length, get_or, Option, Some, None, refl, sym, ap, ap₂, subst, ◌∙◌, arith}
+use Rattle.std.proofs.Common.{◌≡◌, ℕ, suc, ◌-◌, ◌<◌, Bool, true, false, List, [], ◌∷◌, ◌++◌, map, length, Some, None, refl, sym, ap, ap₂, subst, ◌∙◌, arith}
 use Rattle.std.specs.Prelude.{cond, nat_eq, nat_lt, ◌&&◌, slice_index}
 use Rattle.std.proofs.lemmas.List.{map-append}
 use Rattle.airy_math.specs.Rational.{ℚ, whole}

@@ -1,6 +1,5 @@
 -- Where a key stands, case by case.
-use Rattle.std.proofs.Common.{◌≡◌, ℕ, zero, suc, ◌+◌, ◌<◌, ◌≤◌, Bool, true, false, List, [], ◌∷◌, length, get_or, refl, sym, ◌∙◌, ap, arith}
-use Rattle.std.specs.Prelude.{cond}
+use Rattle.std.proofs.Common.{◌≡◌, ℕ, ◌≤◌, true, false, List, [], ◌∷◌, length, refl, arith}
 use lib.Dec.{ltb}
 use Rattle.airy_math.specs.Keys.{Key, euler, IsSortedFrom}
 use Rattle.airy_math.specs.Planned.{IsPlanned}

@@ -1,7 +1,7 @@
 -- The rank of a live key, found by making the key and looking it up.
-use Rattle.std.proofs.Common.{◌≡◌, ℕ, suc, zero, ◌+◌, ◌-◌, ◌*◌, ◌<◌, ◌≤◌, Bool, true, false, List, [], ◌∷◌, ◌++◌, length, map, get_or, append_assoc, append-nil, refl, sym, ap, subst, ◌∙◌, arith, Option, Some, None, Result, Ok, Err}
-use Rattle.std.specs.Prelude.{cond, nat_lt, nat_le, nat_eq, ◌&&◌, ◌↔◌, IsErrOf}
-use Rattle.std.proofs.lemmas.Bool.{and_parts, and_from, ltb-true, lt-ltb, le-ltb, leb-true, cond-true, cond-false}
+use Rattle.std.proofs.Common.{◌≡◌, ℕ, suc, zero, ◌+◌, ◌-◌, ◌<◌, ◌≤◌, Bool, true, false, List, [], ◌∷◌, ◌++◌, length, map, get_or, append_assoc, append-nil, refl, sym, ap, subst, ◌∙◌, arith, Option, Some, None, Result, Ok, Err}
+use Rattle.std.specs.Prelude.{cond, nat_lt, nat_le, nat_eq}
+use Rattle.std.proofs.lemmas.Bool.{and_from, lt-ltb, le-ltb, leb-true}
 use Rattle.airy_math.specs.Keys.{Key, key_of, euler, stable, insert, remove, ordered, ordered_with, IsSortedFrom}
 use Rattle.airy_math.specs.Shapes.{covers, live}
 use Rattle.airy_math.proofs.KeyLemmas.{Ascending, AllBelow}
@@ -16,8 +16,7 @@ use Rattle.airy_math.proofs.SumLemmas.{Each, Each-map, Each-each, Each-below}
 use Rattle.sparse_tensor.specs.Entries.{looked_up}
 use Rattle.amp_plan.specs.Plans.{Planning, tensors_of, rank_at}
 use Rattle.amp_plan.specs.Places.{are_below, place_in}
-use Rattle.amp_plan.specs.declared.place.Place.{Place}
-use Rattle.amp_plan.specs.declared.place.Place.TheVariants.{At, Zero, Beyond, BadIndex}
+use Rattle.amp_plan.specs.declared.place.Place.TheVariants.{At, Zero}
 use Rattle.amp_plan.specs.Walk.{HasRoom, live_rank}
 
 -- ---- lists

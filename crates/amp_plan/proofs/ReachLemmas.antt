@@ -1,10 +1,10 @@
 -- How far the excess of a part reaches, and which parts are passed over.
-use Rattle.std.proofs.Common.{◌≡◌, ℕ, zero, suc, ◌+◌, ◌-◌, ◌*◌, ◌<◌, ◌≤◌, ◌^◌, Bool, true, false, List, [], ◌∷◌, ◌++◌, length, map, Option, Some, None, refl, sym, ap, ap₂, subst, ◌∙◌, arith}
-use Rattle.std.specs.Prelude.{ℤ, pos, negsuc, ◌+ℤ◌, ◌-ℤ◌, ◌*ℤ◌, cond, ◌&&◌}
+use Rattle.std.proofs.Common.{◌≡◌, ℕ, zero, suc, ◌+◌, ◌-◌, ◌*◌, ◌<◌, ◌≤◌, ◌^◌, Bool, true, false, List, [], ◌∷◌, ◌++◌, length, map, Some, None, refl, sym, subst, ◌∙◌, arith}
+use Rattle.std.specs.Prelude.{ℤ, pos, negsuc, ◌+ℤ◌, ◌-ℤ◌, cond}
 use Rattle.std.specs.Int.RustNames.{unsigned_abs}
 use Rattle.std.specs.List.{AllByRecursion}
 use lib.ListN.{replicate}
-use lib.Signed.{le_z, ◌≤ℤ◌}
+use lib.Signed.{◌≤ℤ◌}
 use Rattle.std.proofs.lemmas.Int.{ints}
 use Rattle.std.proofs.lemmas.Bool.{and_parts, false≢true}
 use Rattle.airy_math.specs.Cuts.{natural}
@@ -12,19 +12,18 @@ use Rattle.airy_math.specs.Keys.{Key, key_of, insert, stable}
 use Rattle.airy_math.specs.Rational.{whole}
 use Rattle.airy_math.specs.Shapes.{covers, live, eq_z, per_n}
 use Rattle.airy_math.specs.Splits.{Split}
-use Rattle.airy_math.specs.Sums.{below, each}
+use Rattle.airy_math.specs.Sums.{below}
 use Rattle.airy_math.specs.declared.Shape.{Shape}
 use Rattle.airy_math.specs.declared.Shape.TheVariants.{All, Exact, AtMost}
 use Rattle.airy_index.specs.Choices.{put_before, chosen_split, all_splits}
 use Rattle.sparse_tensor.specs.Entries.{looked_up}
 use Rattle.amp_plan.specs.Plans.{Planning, tensors_of, rank_at}
 use Rattle.amp_plan.specs.Ranked.{RankedTerm, Twice}
-use Rattle.amp_plan.specs.Walk.{split_part, live_rank, for_ranks, HasRoom}
-use Rattle.amp_plan.specs.Measures.{excess, gain, loss, law_excess, covers_excess, IsMeasured}
+use Rattle.amp_plan.specs.Walk.{split_part, live_rank, for_ranks}
+use Rattle.amp_plan.specs.Measures.{excess, gain, loss, law_excess, covers_excess}
 use Rattle.amp_plan.specs.Shares.{behind, listed, choice_part, can_reach, IsShare, FitsShare, IsChosen}
 use Rattle.amp_plan.specs.declared.share.Share.{Share}
 use Rattle.amp_plan.specs.declared.share.Chosen.{Chosen}
-use Rattle.amp_plan.proofs.RankWalkLemmas.{length-insert}
 use Rattle.amp_plan.proofs.ChoiceLemmas.{each-none, all-weaken, all-both, all-map, all-counting}
 use Rattle.amp_plan.proofs.MeasureLemmas.{excess-append, excess-insert, excess-small, covers-excess, AreBytes, bytes_below}
 

@@ -1,13 +1,13 @@
 -- What is read of a list, one index after the other.
-use Rattle.std.proofs.Common.{◌≡◌, ℕ, zero, suc, ◌+◌, ◌-◌, ◌*◌, ◌<◌, ◌≤◌, ◌^◌, Bool, true, false, List, [], ◌∷◌, ◌++◌, length, map, length-append, append_assoc, refl, sym, ap, ap₂, subst, ◌∙◌, arith}
+use Rattle.std.proofs.Common.{◌≡◌, ℕ, zero, suc, ◌+◌, ◌-◌, ◌*◌, ◌<◌, ◌≤◌, Bool, true, false, List, [], ◌∷◌, ◌++◌, length, map, length-append, append_assoc, refl, sym, ap, subst, ◌∙◌, arith}
 use Rattle.std.specs.Prelude.{ℤ, pos, negsuc, ◌+ℤ◌, ◌-ℤ◌, nat_eq}
 use Rattle.std.specs.Int.RustNames.{unsigned_abs}
 use Rattle.std.specs.List.{AllByRecursion}
 use lib.ListN.{replicate}
 use Rattle.std.proofs.lemmas.Int.{ints}
 use Rattle.airy_math.specs.Cuts.{natural}
-use Rattle.airy_math.specs.Splits.{Split, runs, into_runs, splits}
-use Rattle.airy_math.specs.Sums.{below, each}
+use Rattle.airy_math.specs.Splits.{runs, into_runs, splits}
+use Rattle.airy_math.specs.Sums.{below}
 use Rattle.airy_index.specs.Choices.{put_before, chosen_split, all_splits, whole_length}
 use Rattle.airy_index.proofs.ChoiceLemmas.{splits-all}
 use Rattle.airy_index.proofs.RunLemmas.{whole_length-runs}

@@ -1,27 +1,23 @@
 -- The numbers of a walk over the splits of a list, from one step to the next.
-use Rattle.std.proofs.Common.{◌≡◌, ℕ, zero, suc, ◌+◌, ◌-◌, ◌*◌, ◌/◌, ◌<◌, ◌≤◌, ◌^◌, List, [], ◌∷◌, ◌++◌, length, length-append, append_assoc, append-nil, refl, sym, ap, ap₂, subst, ◌∙◌, arith, Option}
+use Rattle.std.proofs.Common.{◌≡◌, ℕ, zero, suc, ◌+◌, ◌-◌, ◌*◌, ◌/◌, ◌<◌, ◌≤◌, ◌^◌, List, [], ◌∷◌, ◌++◌, length, length-append, append_assoc, append-nil, refl, sym, ap, subst, ◌∙◌, arith, Option}
 use Rattle.std.specs.Prelude.{ℤ, pos, ◌+ℤ◌, ◌-ℤ◌}
-use Rattle.std.specs.Int.RustNames.{unsigned_abs}
-use Rattle.std.specs.List.{AllByRecursion}
 use lib.ListN.{replicate}
 use Rattle.std.proofs.lemmas.Int.{ints}
 use Rattle.std.proofs.lemmas.List.{length-replicate}
 use Rattle.std.proofs.Math.Nat.{mul_assoc, mul-le-mul, one-le-pow, mul-div_cancel}
 use Rattle.airy_math.specs.Cuts.{natural}
 use Rattle.airy_math.specs.Keys.{Key, key_of, insert, total}
-use Rattle.airy_math.specs.Shapes.{per_n}
 use Rattle.airy_math.specs.Splits.{Split}
 use Rattle.airy_math.specs.Sums.{binomial}
 use Rattle.airy_index.specs.Choices.{whole_length}
 use Rattle.airy_index.proofs.BinomialLemmas.{binomial-step, binomial-small}
 use Rattle.airy_index.proofs.ChosenLemmas.{small_more}
 use Rattle.sparse_tensor.specs.Entries.{looked_up}
-use Rattle.key_index.specs.Codes.{code_of_list}
 use Rattle.key_index.proofs.CodeLemmas.{list_code-small, list_code-more, list_code-none, list_code-append, index_code-small}
 use Rattle.amp_plan.specs.Plans.{Planning, tensors_of}
 use Rattle.amp_plan.specs.Walk.{live_rank}
-use Rattle.amp_plan.specs.Measures.{excess, gain, loss, IsMeasured, IsLight, IsCandidate}
-use Rattle.amp_plan.specs.Shares.{behind, more_of, listed, IsShare, FitsShare, IsChosen}
+use Rattle.amp_plan.specs.Measures.{gain, loss, IsMeasured, IsLight, IsCandidate}
+use Rattle.amp_plan.specs.Shares.{more_of, listed, IsShare, FitsShare, IsChosen}
 use Rattle.amp_plan.specs.declared.measure.Measure.{Measure}
 use Rattle.amp_plan.specs.declared.share.Share.{Share}
 use Rattle.amp_plan.specs.declared.share.Chosen.{Chosen}

@@ -1,18 +1,17 @@
 -- A walk over the splits of a list begins with nothing chosen.
-use Rattle.std.proofs.Common.{◌≡◌, ℕ, zero, suc, ◌+◌, ◌-◌, ◌*◌, ◌<◌, ◌≤◌, ◌^◌, List, [], ◌∷◌, ◌++◌, length, refl, sym, ap, subst, ◌∙◌, arith, lit≤}
-use Rattle.std.specs.Prelude.{ℤ, pos}
+use Rattle.std.proofs.Common.{◌≡◌, ℕ, ◌≤◌, ◌^◌, List, [], ◌∷◌, length, refl, sym, ap, ◌∙◌, arith, lit≤}
+use Rattle.std.specs.Prelude.{pos}
 use Rattle.std.specs.List.{AllByRecursion}
 use native.Mathlib.Nat.{pow-le-pow_right}
 use Rattle.airy_math.specs.Keys.{IsSortedFrom}
-use Rattle.airy_math.specs.Splits.{Split, runs, splits}
+use Rattle.airy_math.specs.Splits.{runs, splits}
 use Rattle.airy_index.specs.Choices.{whole_length}
 use Rattle.sparse_tensor.specs.Entries.{looked_up}
 use Rattle.amp_plan.specs.Plans.{Planning, tensors_of}
 use Rattle.amp_plan.specs.Walk.{HasRoom, IsPartOf, genus_part}
 use Rattle.amp_plan.specs.Measures.{IsMeasured, gain, loss}
-use Rattle.amp_plan.specs.Shares.{no_split, listed, choice_part, IsShare, FitsShare, IsChosen}
+use Rattle.amp_plan.specs.Shares.{no_split, choice_part, IsShare, FitsShare, IsChosen}
 use Rattle.amp_plan.specs.declared.share.Share.{Share}
-use Rattle.amp_plan.specs.declared.share.Chosen.{Chosen}
 use Rattle.amp_plan.specs.declared.walk.Pair.{Pair}
 use Rattle.amp_plan.proofs.SplitWalkLemmas.{part_of}
 use Rattle.amp_plan.proofs.ChoiceLemmas.{all-both, choices-all, fits-all}

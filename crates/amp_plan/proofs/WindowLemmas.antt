@@ -1,8 +1,7 @@
 -- The sums that a shape covers, as a window.
-use Rattle.std.proofs.Common.{◌≡◌, ℕ, zero, suc, ◌+◌, ◌*◌, ◌<◌, ◌≤◌, Bool, true, false, ◌&&◌, refl, sym, ◌∙◌, ap, arith}
+use Rattle.std.proofs.Common.{◌≡◌, ℕ, suc, ◌+◌, ◌*◌, ◌<◌, ◌≤◌, true, refl, arith}
 use Rattle.std.specs.Prelude.{ℤ, pos, negsuc, ◌+ℤ◌, ◌-ℤ◌, ◌*ℤ◌}
 use Rattle.std.specs.Int.RustNames.{unsigned_abs}
-use lib.Dec.{leb}
 use lib.Signed.{le_z, ◌≤ℤ◌, ◌<ℤ◌}
 use Rattle.std.proofs.lemmas.Int.{ints}
 use Rattle.airy_math.specs.Shapes.{eq_z, law_number, per_g, per_n}
@@ -14,7 +13,6 @@ use Rattle.airy_math.specs.Keys.{Key, total}
 use lib.ListN.{length}
 use Rattle.std.proofs.lemmas.Int.{unsigned_abs-mul}
 use Rattle.sparse_tensor.specs.Grades.{IsSmallLaw}
-use Rattle.amp_plan.specs.declared.window.Window.{Window}
 use Rattle.amp_plan.specs.Listing.{is_in}
 
 pub only_at : (z : ℤ) (n : ℕ) → z ≡ pos n → (s : ℕ) → eq_z (pos s) z ≡ is_in (record { low = n; high = n }) s

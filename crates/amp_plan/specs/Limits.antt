@@ -1,7 +1,7 @@
 -- What keeps a plan from being made.
 use Prim.Native.Nat.{ℕ}
 use mathlib.Core.Path.{◌≡◌}
-use mathlib.Core.Bool.{Bool, ◌&&◌, cond}
+use mathlib.Core.Bool.{◌&&◌, cond}
 use mathlib.Core.List.{List}
 use lib.Dec.{leb}
 use lib.ListN.{length}

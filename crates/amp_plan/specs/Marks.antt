@@ -1,7 +1,7 @@
 -- Ranks that were named, each once.
 use Prim.Native.Nat.{ℕ, ◌<◌, ◌≤◌}
 use mathlib.Core.Path.{◌≡◌, refl}
-use mathlib.Core.Bool.{Bool, true, cond}
+use mathlib.Core.Bool.{true, cond}
 use mathlib.Core.List.{List, [], ◌∷◌, ◌++◌}
 use lib.Dec.{eqb}
 use lib.ListN.{length, get_or}

@@ -13,7 +13,7 @@ use Rattle.airy_math.specs.Shapes.{eq_z, per_n}
 use Rattle.airy_math.specs.declared.Shape.{Shape}
 use Rattle.airy_math.specs.declared.Shape.TheVariants.{All, Exact, AtMost}
 use Rattle.key_index.specs.Codes.{code_of_list}
-use Rattle.amp_plan.specs.Plans.{Planning, tensors_of}
+use Rattle.amp_plan.specs.Plans.{Planning}
 use Rattle.amp_plan.specs.declared.measure.Measure.{Measure}
 
 -- the excess of a list: its sum less c for each of its indices

@@ -1,5 +1,5 @@
 -- What a key needs, as ranks, and which keys need it.
-use Prim.Native.Nat.{ℕ, zero, suc, ◌-◌, ◌<◌}
+use Prim.Native.Nat.{ℕ, suc, ◌-◌, ◌<◌}
 use mathlib.Core.Path.{◌≡◌}
 use mathlib.Core.Bool.{Bool, true, false, ◌||◌, cond}
 use mathlib.Core.List.{List, [], ◌∷◌, map}

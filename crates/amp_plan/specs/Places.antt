@@ -1,14 +1,13 @@
 -- Where a key stands in a plan, or why it stands nowhere; and the power of the letter at a key.
 use Prim.Native.Nat.{ℕ, ◌<◌}
 use mathlib.Core.Path.{◌≡◌}
-use mathlib.Core.Bool.{Bool, true, false, ◌&&◌, cond}
+use mathlib.Core.Bool.{Bool, true, ◌&&◌, cond}
 use mathlib.Core.List.{List, [], ◌∷◌}
 use lib.Dec.{ltb}
 use lib.ListN.{length, get_or}
 use Rattle.airy_math.specs.Keys.{Key, euler, before}
 use Rattle.airy_math.specs.Shapes.{covers}
 use Rattle.airy_math.specs.Cuts.{letter_of}
-use Rattle.sparse_tensor.specs.Entries.{Entries}
 use Rattle.amp_plan.specs.Plans.{Planning, rank_at}
 use Rattle.amp_plan.specs.declared.place.Place.{Place}
 use Rattle.amp_plan.specs.declared.place.Place.TheVariants.{At, Zero, Beyond, BadIndex}

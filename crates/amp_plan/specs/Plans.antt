@@ -1,9 +1,7 @@
 -- A plan: tensors and a bound on the Euler number. Its keys are the planned keys in order, and a key's rank is its place.
 use Prim.Native.Nat.{ℕ}
 use mathlib.Core.Path.{refl}
-use mathlib.Core.Bool.{Bool, true, false, ◌&&◌}
-use mathlib.Core.List.{List, [], ◌∷◌}
-use lib.Dec.{ltb}
+use mathlib.Core.List.{List}
 use Rattle.std.specs.Coded.{Coded, code_by, coded×, coded_ℕ}
 use Rattle.airy_math.specs.Keys.{Key}
 use Rattle.airy_math.specs.Planned.{planned}

@@ -1,5 +1,5 @@
 -- What is left of a key's indices without the pivot, with what a walk over it needs.
-use Prim.Native.Nat.{ℕ, ◌<◌}
+use Prim.Native.Nat.{◌<◌}
 use mathlib.Core.Path.{◌≡◌}
 use lib.IntN.{ℤ}
 use Rattle.std.specs.List.{AllByRecursion}

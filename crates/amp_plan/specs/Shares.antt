@@ -4,7 +4,7 @@ use mathlib.Core.Path.{◌≡◌}
 use mathlib.Core.Bool.{Bool, ◌&&◌}
 use mathlib.Core.List.{List, [], ◌∷◌, ◌++◌}
 use lib.ListN.{length, replicate}
-use lib.IntN.{ℤ, pos, ◌+ℤ◌, ◌-ℤ◌}
+use lib.IntN.{pos, ◌+ℤ◌, ◌-ℤ◌}
 use lib.Signed.{le_z}
 use Rattle.std.specs.Int.RustNames.{unsigned_abs}
 use Rattle.std.specs.List.{AllByRecursion}

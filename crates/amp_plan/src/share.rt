@@ -83,17 +83,26 @@ impl Chosen {
         requires ways { self.now.ways ≤ 2 ^ 25 }
         ensures { result ≡ record self.now { part = record { places = self.now.part.places + item.now.places; excess = self.now.part.excess +ℤ item.now.excess; code = self.now.part.code + item.now.code }; ways = self.now.ways * (count - taken) / (taken + 1) } }
     {
+        let ways = self.ways * u64::from(count - taken);
         Chosen {
             part: self.part.plus(*item),
-            ways: self.ways * u64::from(count - taken) / (u64::from(taken) + 1),
+            // most runs are short, and a division by a constant is fast
+            ways: match taken {
+                0 => ways,
+                1 => ways / 2,
+                2 => ways / 3,
+                _ => ways / (u64::from(taken) + 1),
+            },
             ..*self
         }
     }
 }
 
-/// Hands over the products of all splits that begin with the part that was chosen, and go on with the runs that are left.
-/// A part whose excess can't come where both keys are covered is passed over.
-pub(crate) fn walk_choices<V: TermVisitor>(
+/// Hands over the products of all splits that begin with the part that was chosen, and go on with the runs that are left; none
+/// where the part's excess can't come where both keys are covered.
+#[cycle(choices)]
+#[inline(always)]
+pub(crate) fn walk_reachable<V: TermVisitor>(
     ranking: &Ranking,
     index: &KeyIndex,
     share: &Share,
@@ -110,15 +119,38 @@ pub(crate) fn walk_choices<V: TermVisitor>(
     if !share.can_reach(chosen) {
         return;
     }
-    let Some((run, others)) = left.split_first() else {
+    if left.is_empty() {
         walk_chosen(ranking, index, share, chosen, visitor);
-        return;
+    } else {
+        walk_choices(ranking, index, share, left, chosen, visitor);
+    }
+}
+
+/// The same where a run is left, without asking that.
+#[cycle(choices)]
+fn walk_choices<V: TermVisitor>(
+    ranking: &Ranking,
+    index: &KeyIndex,
+    share: &Share,
+    left: &[(u8, u8)],
+    chosen: &Chosen,
+    visitor: &mut V,
+)
+    requires keys { index.now.keys ≡ keys_of ranking.now }
+    requires exact { index.now.exact ≡ true }
+    requires share { IsShare ranking.now share.now }
+    requires go_on { CanGoOn (V.allows visitor.old) ranking.now share.now left.now chosen.now }
+    requires some { 0 < length left.now }
+    ensures { (s : Split) → IsChosen ranking.now share.now left.now chosen.now s → Takes V.allows V.state V.step (choice_part ranking.now share.now s left.now) visitor.old visitor.new }
+{
+    let Some((run, others)) = left.split_first() else {
+        unreachable!()
     };
     let item = Measure::of(index, share.per_n, run.0);
     let mut next = chosen.before(&item, run.1);
     let mut taken = 0;
     loop {
-        walk_choices(ranking, index, share, others, &next, visitor);
+        walk_reachable(ranking, index, share, others, &next, visitor);
         if taken == run.1 {
             return;
         }
@@ -217,7 +249,7 @@ pub(crate) fn walk_share<V: TermVisitor>(
         gain: rest.gain,
         loss: rest.loss,
     };
-    walk_choices(
+    walk_reachable(
         ranking,
         index,
         &share,

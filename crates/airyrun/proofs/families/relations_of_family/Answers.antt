@@ -1,5 +1,5 @@
-use Rattle.std.proofs.Common.{arith, ◌≡◌, ◌⊎◌, inl, inr, ◌∙◌, ap, subst, sym, refl, ℕ, ◌+◌, ◌*◌, ◌≤◌, List}
-use Rattle.std.specs.Prelude.{Some, None}
+use Rattle.std.proofs.Common.{arith, ◌≡◌, ◌⊎◌, inl, inr, ap, refl, ℕ, ◌≤◌}
+use Rattle.std.specs.Prelude.{None}
 use Rattle.airy_math.specs.declared.Family.{Family}
 use Rattle.airy_math.specs.declared.Family.TheVariants.{Wk, Bgw, Wp}
 use Rattle.airy_math.specs.Named.{wk, bgw}

@@ -1,4 +1,4 @@
-use Rattle.std.proofs.Common.{◌≡◌, ◌⊎◌, rules, inl, inr, false}
+use Rattle.std.proofs.Common.{◌≡◌, rules, inl, inr, false}
 use Rattle.airyrun.specs.Tables.{is_bound, structure_of}
 use Rattle.airyrun.proofs.ReportLemmas.{refused_bound}
 use Rattle.airyrun.proofs.families.table_of_family.Goals as goal

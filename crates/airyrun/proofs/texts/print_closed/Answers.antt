@@ -1,4 +1,4 @@
-use Rattle.std.proofs.Common.{◌≡◌, ◌∙◌, refl, ap, subst}
+use Rattle.std.proofs.Common.{◌∙◌, refl, ap, subst}
 use Rattle.airy_math.specs.Relations.{Close}
 use Rattle.sparse_tensor.specs.Entries.{looked_up}
 use Rattle.airy_relations.specs.Verdicts.{verdict}

@@ -1,6 +1,6 @@
 use Rattle.std.proofs.Common.{◌≡◌, ◌∙◌, ◌++◌, ap, ap₂, take, subst}
 use Rattle.std.specs.Prelude.{codes, decimal}
-use Rattle.airyrun.specs.Report.{Ends, Report, refusal}
+use Rattle.airyrun.specs.Report.{Ends, refusal}
 use Rattle.airyrun.specs.Texts.{line_refused, kind_text}
 use Rattle.airyrun.proofs.texts.refuse_line.Goals as goal
 

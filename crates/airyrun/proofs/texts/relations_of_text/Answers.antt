@@ -1,4 +1,4 @@
-use Rattle.std.proofs.Common.{◌≡◌, inl, refl, rules, min}
+use Rattle.std.proofs.Common.{◌≡◌, rules, min}
 use Rattle.airy_relations.specs.Verdicts.{verdict}
 use Rattle.sparse_tensor.specs.Entries.{looked_up}
 use Rattle.airyrun.specs.Closings.{relations_report, closed}

@@ -1,8 +1,6 @@
-use Rattle.std.proofs.Common.{arith, rules, refl, ◌+◌, ap, ap₂, sym, ◌∙◌, ◌≡◌, subst, true, false}
+use Rattle.std.proofs.Common.{arith, rules, refl, ◌+◌}
 use Rattle.key_index.specs.Codes.{code_of_genus}
-use Rattle.key_index.specs.Found.{IsRankOf}
 use Rattle.amp_plan.specs.Plans.{tensors_of}
-use Rattle.amp_plan.specs.Measures.{covers_excess}
 use Rattle.amp_plan.proofs.FindLemmas.{unstable, uncovered, found_live}
 use Rattle.amp_plan.proofs.finding.find_live.Goals as goal
 

@@ -1,5 +1,5 @@
-use Rattle.std.proofs.Common.{arith, sym, refl, ap, ◌∙◌, ◌≡◌, ◌<◌, ◌++◌, length, ℕ}
-use Rattle.airy_math.specs.Keys.{Key, key_of, insert, ordered}
+use Rattle.std.proofs.Common.{arith, sym, ap, ◌∙◌, ◌<◌, length}
+use Rattle.airy_math.specs.Keys.{key_of, ordered}
 use Rattle.amp_plan.specs.Places.{place_in}
 use Rattle.amp_plan.proofs.RankWalkLemmas.{Orders, few_indices, ordered-push, length-ordered, made_stable, not_made, at_rank, not_at, not_stable}
 use Rattle.amp_plan.proofs.finding.rank_with.Goals as goal

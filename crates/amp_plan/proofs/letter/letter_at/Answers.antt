@@ -1,12 +1,9 @@
-use Rattle.std.proofs.Common.{arith, rules, sym, ◌∙◌, ◌≡◌, ◌≤◌, ◌+◌, ◌*◌, suc, ap, length, subst}
-use Rattle.std.specs.Int.RustNames.{unsigned_abs}
+use Rattle.std.proofs.Common.{arith, rules, sym, ◌∙◌, subst}
 use Rattle.std.proofs.lemmas.Int.{ints}
 use mir.Val.{to_z, of_z}
 use mir.Syntax.{w64}
-use Rattle.airy_math.specs.Shapes.{law_number}
-use Rattle.airy_math.specs.Cuts.{letter_of, natural}
 use Rattle.sparse_tensor.specs.Grades.{IsSmallLaw}
-use Rattle.amp_plan.proofs.WindowLemmas.{law_small, no_room, room_is, natural_none, natural_some}
+use Rattle.amp_plan.proofs.WindowLemmas.{no_room, room_is, natural_none, natural_some}
 use Rattle.amp_plan.proofs.letter.letter_at.Goals as goal
 
 pub returns-in_default : goal.returns-in_default

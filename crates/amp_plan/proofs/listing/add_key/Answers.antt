@@ -1,4 +1,4 @@
-use Rattle.std.proofs.Common.{rules, arith, ◌≡◌, ap, sym, subst, ◌∙◌, length, ◌++◌, ◌∷◌, []}
+use Rattle.std.proofs.Common.{arith, ◌≡◌, ap, ◌∙◌, length, ◌++◌, ◌∷◌, []}
 use Rattle.std.specs.Prelude.{Err}
 use Rattle.airy_math.specs.Keys.{key_of, euler}
 use Rattle.amp_plan.proofs.KeyLemmas.{no_error, ordered-sorted, added_where_ok}

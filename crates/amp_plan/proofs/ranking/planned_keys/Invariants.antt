@@ -1,4 +1,4 @@
-use Rattle.std.proofs.Common.{◌≡◌, ◌≤◌, ◌++◌, ◌+◌, ◌-◌, length}
+use Rattle.std.proofs.Common.{◌≡◌, ◌≤◌, ◌++◌, ◌-◌, length}
 use Rattle.airy_math.specs.Sums.{each, count_from}
 use Rattle.airy_math.specs.Planned.{planned}
 use Rattle.sparse_tensor.specs.Entries.{looked_up}

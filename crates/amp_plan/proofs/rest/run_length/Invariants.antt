@@ -1,4 +1,4 @@
-use Rattle.std.proofs.Common.{◌≡◌, ◌≤◌, ◌+◌, drop}
+use Rattle.std.proofs.Common.{◌≡◌, ◌+◌, drop}
 use Rattle.amp_plan.proofs.ListWalkLemmas.{lead}
 use Rattle.amp_plan.proofs.rest.run_length.Given as goal
 

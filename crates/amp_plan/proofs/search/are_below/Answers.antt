@@ -1,4 +1,4 @@
-use Rattle.std.proofs.Common.{arith, rules, sym, ◌∙◌}
+use Rattle.std.proofs.Common.{arith, sym, ◌∙◌}
 use Rattle.amp_plan.proofs.SearchLemmas.{below-more, below-less, below-end}
 use Rattle.amp_plan.proofs.search.are_below.Goals as goal
 

@@ -1,7 +1,6 @@
-use Rattle.std.proofs.Common.{arith, sym, ◌∙◌, ◌≡◌, ◌<◌, ◌≤◌, ◌+◌, ◌-◌, ◌/◌, ap, length, true, false, get_or}
+use Rattle.std.proofs.Common.{arith, sym, ◌∙◌, ◌≡◌, ◌<◌, ◌+◌, ◌-◌, ◌/◌, ap, length, true, false, get_or}
 use Rattle.std.proofs.lemmas.List.{get_or_read}
 use Rattle.airy_math.specs.Keys.{before}
-use Rattle.airy_math.specs.Ranks.{place_of}
 use Rattle.amp_plan.proofs.SearchLemmas.{place-above, place-below}
 use Rattle.amp_plan.proofs.search.place_among.Goals as goal
 

@@ -1,10 +1,8 @@
-use Rattle.std.proofs.Common.{arith, rules, sym, ap, subst, ◌∙◌, ◌≡◌, ◌<◌, ◌^◌, ◌-◌, []}
+use Rattle.std.proofs.Common.{sym, ap, subst, ◌∙◌, ◌<◌, ◌^◌, ◌-◌, []}
 use Rattle.airy_math.specs.Rational.{whole}
 use Rattle.airy_math.specs.Keys.{key_of, insert}
-use Rattle.airy_math.specs.Splits.{Split}
 use Rattle.amp_plan.specs.Ranked.{ranks_of, AreAllowed, NameAllowed, Takes, Twice}
 use Rattle.amp_plan.specs.Walk.{split_part, live_rank}
-use Rattle.amp_plan.specs.Shares.{choice_part, IsChosen}
 use Rattle.amp_plan.proofs.RankWalkLemmas.{IsFound}
 use Rattle.amp_plan.proofs.WalkLemmas.{takes-ranks, takes-no_left, takes-no_right, allowed-ranks}
 use Rattle.amp_plan.proofs.ChoiceLemmas.{choices-end}

@@ -1,9 +1,9 @@
-use Rattle.std.proofs.Common.{arith, rules, sym, ap, subst, ◌∙◌, ◌≡◌, ◌∷◌}
+use Rattle.std.proofs.Common.{sym, ap, subst, ◌∙◌, ◌≡◌, ◌∷◌}
 use Rattle.airy_math.specs.Splits.{runs}
 use Rattle.airy_math.specs.Shapes.{per_n}
 use Rattle.amp_plan.specs.Plans.{tensors_of}
 use Rattle.amp_plan.specs.Ranked.{NameAllowed, Takes}
-use Rattle.amp_plan.specs.Walk.{HasRoom, genus_part}
+use Rattle.amp_plan.specs.Walk.{HasRoom}
 use Rattle.amp_plan.specs.Measures.{IsMeasured, gain, loss}
 use Rattle.amp_plan.specs.Shares.{no_split, choice_part, IsChosen}
 use Rattle.amp_plan.specs.declared.share.Chosen.{Chosen}
@@ -11,8 +11,8 @@ use Rattle.std.specs.Prelude.{pos}
 use Rattle.amp_plan.proofs.StartLemmas.{chosen_first, share_part}
 use Rattle.amp_plan.proofs.share.walk_share.Goals as goal
 
-pub walk_choices-requires-clause-go_on : goal.walk_choices-requires-clause-go_on
-walk_choices-requires-clause-go_on g c =
+pub walk_reachable-requires-clause-go_on : goal.walk_reachable-requires-clause-go_on
+walk_reachable-requires-clause-go_on g c =
     let p = c.args.ranking.now in
     let h = c.of-share.result in
     let I = c.args.rest.now.list.items in
@@ -41,5 +41,5 @@ returns g c =
     let first = chosen_first p h I c.args.rest.now.gain c.args.rest.now.loss c.of-share.ensures.share room right (c.requires.rest.gain ∙ ap (λ z. gain z I) (sym law)) (c.requires.rest.loss ∙ ap (λ z. loss z I) (sym law)) in
     let runs : c.as_slice.result.now ≡ runs I = c.as_slice.ensures.value ∙ c.requires.rest.runs in
     let same = share_part p h I c.args.genus c.args.k c.args.pair.now c.of-share.ensures.genus c.of-share.ensures.k c.of-share.ensures.pair in
-    subst (λ ts. Takes g.V.TermVisitor.allows g.V.TermVisitor.state g.V.TermVisitor.step ts c.args.visitor.now c.walk_choices.new.visitor) (ap (choice_part p h no_split) runs ∙ same)
-    (c.walk_choices.ensures no_split (subst (λ l. IsChosen p h l begun no_split) (sym runs) first))
+    subst (λ ts. Takes g.V.TermVisitor.allows g.V.TermVisitor.state g.V.TermVisitor.step ts c.args.visitor.now c.walk_reachable.new.visitor) (ap (choice_part p h no_split) runs ∙ same)
+    (c.walk_reachable.ensures no_split (subst (λ l. IsChosen p h l begun no_split) (sym runs) first))

@@ -1,4 +1,4 @@
-use Rattle.std.proofs.Common.{arith, sym, subst, ap, ◌<◌, ◌≡◌, length}
+use Rattle.std.proofs.Common.{arith, sym, subst, ◌<◌, length}
 use Rattle.airy_math.specs.Planned.{IsPlanned}
 use Rattle.amp_plan.specs.Plans.{tensors_of, keys_of, key_at}
 use Rattle.amp_plan.proofs.tests.products_of_all.Goals as goal

@@ -1,4 +1,4 @@
-use Rattle.std.proofs.Common.{arith, rules, sym, ap, subst, ◌<◌, ◌≡◌, ◌∙◌, length}
+use Rattle.std.proofs.Common.{arith, ap, subst, ◌<◌, length}
 use Rattle.std.specs.Prelude.{slice_index}
 use Rattle.airy_math.specs.Keys.{times, remove}
 use Rattle.airy_math.specs.Terms.{terms}

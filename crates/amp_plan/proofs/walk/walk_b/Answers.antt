@@ -1,4 +1,4 @@
-use Rattle.std.proofs.Common.{sym, ap, subst, ◌∙◌, ◌≡◌, get_or, take}
+use Rattle.std.proofs.Common.{sym, subst, ◌∙◌, get_or, take}
 use Rattle.std.proofs.lemmas.List.{get_or_default}
 use Rattle.airy_math.specs.Sums.{each}
 use Rattle.amp_plan.specs.Ranked.{NameAllowed, Takes}

@@ -1,4 +1,4 @@
-use Rattle.std.proofs.Common.{sym, ap, subst, ◌∙◌, ◌≡◌, take}
+use Rattle.std.proofs.Common.{sym, ap, subst, ◌∙◌, take}
 use Rattle.airy_math.specs.Sums.{each}
 use Rattle.airy_math.specs.Tensors.{row_c}
 use Rattle.sparse_tensor.specs.Entries.{looked_up}

@@ -1,4 +1,4 @@
-use Rattle.std.proofs.Common.{sym, ap, subst, ◌∙◌, ◌≡◌, ◌++◌}
+use Rattle.std.proofs.Common.{sym, subst, ◌++◌}
 use Rattle.amp_plan.specs.Ranked.{NameAllowed, Takes}
 use Rattle.amp_plan.specs.Walk.{entry_part, joined_part, product_part}
 use Rattle.amp_plan.proofs.WalkLemmas.{takes-append, allowed-left, allowed-right, allowed-weaken}

@@ -1,8 +1,8 @@
-use Rattle.std.proofs.Common.{arith, sym, ap, subst, ◌∙◌, ◌≡◌, ◌-◌, true, false}
+use Rattle.std.proofs.Common.{arith, sym, ◌∙◌, ◌≡◌, ◌-◌, true, false}
 use Rattle.std.specs.Prelude.{nat_lt}
 use Rattle.airy_math.specs.Keys.{key_of, insert}
-use Rattle.amp_plan.specs.Ranked.{ranks_of, AreAllowed, NameAllowed, Takes, Joined}
-use Rattle.amp_plan.specs.Walk.{joined_part, live_rank, for_rank}
+use Rattle.amp_plan.specs.Ranked.{ranks_of, AreAllowed, Joined}
+use Rattle.amp_plan.specs.Walk.{joined_part, live_rank}
 use Rattle.amp_plan.proofs.WalkLemmas.{takes-none, takes-rank, takes-no_rank, allowed-rank}
 use Rattle.amp_plan.proofs.walk.walk_joined.Goals as goal
 

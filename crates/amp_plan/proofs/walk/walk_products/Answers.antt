@@ -1,4 +1,4 @@
-use Rattle.std.proofs.Common.{arith, ap, subst, ◌∙◌, ◌≡◌, ◌≤◌, ◌<◌, ◌-◌, ◌+◌, suc, sym}
+use Rattle.std.proofs.Common.{arith, subst, ◌≡◌, ◌<◌, ◌-◌, ◌+◌, suc}
 use Rattle.airy_math.specs.Sums.{below, count_from}
 use Rattle.amp_plan.specs.Walk.{product_part, genus_part}
 use Rattle.amp_plan.proofs.WalkLemmas.{taken-none, taken-more, taken-all, allowed-next, HasTaken, count-next, count-over}

@@ -1,4 +1,4 @@
-use Rattle.std.proofs.Common.{◌≤◌, ◌-◌, suc}
+use Rattle.std.proofs.Common.{◌-◌, suc}
 use Rattle.airy_math.specs.Sums.{below, count_from}
 use Rattle.amp_plan.specs.Walk.{genus_part}
 use Rattle.amp_plan.proofs.WalkLemmas.{HasTaken}

@@ -1,7 +1,6 @@
-use Rattle.std.proofs.Common.{arith, sym, ap, subst, ◌∙◌, ◌≡◌, ◌++◌, ◌∷◌, [], length}
+use Rattle.std.proofs.Common.{arith, sym, ap, subst, ◌∙◌, ◌++◌, ◌∷◌, [], length}
 use Rattle.std.specs.Prelude.{slice_index}
 use Rattle.airy_math.specs.Keys.{remove}
-use Rattle.airy_math.specs.Tensors as math
 use Rattle.sparse_tensor.specs.Entries.{looked_up}
 use Rattle.amp_plan.specs.Plans.{tensors_of}
 use Rattle.amp_plan.specs.Ranked.{NameAllowed, Takes, Alone}

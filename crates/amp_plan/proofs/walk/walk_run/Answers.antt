@@ -8,7 +8,7 @@ use Rattle.airy_math.specs.Sums.{each}
 use Rattle.airy_math.specs.Tensors.{row_b}
 use Rattle.sparse_tensor.specs.Entries.{looked_up}
 use Rattle.amp_plan.specs.Plans.{tensors_of}
-use Rattle.amp_plan.specs.Ranked.{RankedTerm, NameAllowed, Takes}
+use Rattle.amp_plan.specs.Ranked.{NameAllowed, Takes}
 use Rattle.amp_plan.specs.Walk.{HasRoom, once_part, run_part}
 use Rattle.amp_plan.proofs.RankWalkLemmas.{few_in_room, room_less, entry_b-small}
 use Rattle.amp_plan.proofs.WalkLemmas.{takes-start, takes-step, takes-end, allowed-item}

@@ -1,4 +1,4 @@
-use Rattle.std.proofs.Common.{sym, ap, subst, ◌∙◌, ◌≡◌, ◌-◌}
+use Rattle.std.proofs.Common.{sym, subst, ◌∙◌, ◌-◌}
 use Rattle.airy_math.specs.Rational.{whole}
 use Rattle.airy_math.specs.Keys.{key_of, insert}
 use Rattle.amp_plan.specs.Plans.{tensors_of}

@@ -1,5 +1,5 @@
-use Rattle.std.proofs.Common.{arith, sym, ap, subst, ◌∙◌, ◌≡◌, ◌++◌, ◌∷◌, List}
-use Rattle.airy_math.specs.Splits.{Split, splits}
+use Rattle.std.proofs.Common.{arith, sym, ap, subst, ◌∙◌, ◌++◌}
+use Rattle.airy_math.specs.Splits.{splits}
 use Rattle.airy_index.specs.SplitValues.{split_value}
 use Rattle.amp_plan.specs.Plans.{tensors_of}
 use Rattle.amp_plan.specs.Walk.{genus_part, split_part}

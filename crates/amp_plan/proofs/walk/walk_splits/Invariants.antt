@@ -1,7 +1,4 @@
-use Rattle.std.proofs.Common.{take, ◌≡◌, ◌++◌}
-use Rattle.airy_math.specs.Sums.{each}
-use Rattle.airy_math.specs.Splits.{splits, Split}
-use Rattle.amp_plan.specs.Ranked.{Takes}
+use Rattle.airy_math.specs.Splits.{splits}
 use Rattle.amp_plan.specs.Walk.{split_part}
 use Rattle.amp_plan.proofs.WalkLemmas.{HasTaken}
 use Rattle.amp_plan.proofs.walk.walk_splits.Given as goal

@@ -1,4 +1,4 @@
-use Rattle.std.proofs.Common.{arith, rules, sym, refl, ap, ◌∙◌, ◌≡◌, true, false}
+use Rattle.std.proofs.Common.{arith, refl, ap, ◌∙◌, ◌≡◌, true, false}
 use Rattle.std.specs.Prelude.{nat_eq}
 use Rattle.airy_math.specs.RationalLaws.{half}
 use Rattle.airy_math.specs.Obtained.{obtained_product}

@@ -1,5 +1,5 @@
 use Rattle.std.proofs.Common.{rules, arith, refl, ap, ap₂, sym, subst, ◌∙◌, ◌≡◌, ◌≤◌, ◌++◌, ◌+◌, ◌∷◌, [], drop, length, Bool, ℕ, List}
-use Rattle.std.specs.Prelude.{slice_index, ◌⊎◌}
+use Rattle.std.specs.Prelude.{slice_index}
 use Rattle.std.proofs.Common.{true, false}
 use Rattle.std.proofs.lemmas.Bool.{false≢true}
 use Rattle.airy_math.specs.Keys.{remove}

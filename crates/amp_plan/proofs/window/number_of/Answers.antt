@@ -1,8 +1,8 @@
 use Rattle.std.proofs.Common.{rules, arith, ap₂, ◌∙◌, ◌≡◌}
-use Rattle.std.specs.Prelude.{ℤ, pos, ◌+ℤ◌, ◌*ℤ◌, ◌-ℤ◌}
+use Rattle.std.specs.Prelude.{ℤ, pos, ◌*ℤ◌, ◌-ℤ◌}
 use Rattle.std.proofs.lemmas.Int.{ints}
 use mir.Val.{to_z, of_z}
-use mir.Syntax.{w16, w32, w64}
+use mir.Syntax.{w16, w32}
 use Rattle.airy_math.specs.Shapes.{law_number}
 use Rattle.amp_plan.proofs.window.number_of.Goals as goal
 

@@ -1,8 +1,7 @@
-use Rattle.std.proofs.Common.{arith, sym, ap, ap₂, subst, ◌∙◌, ◌≡◌, ◌≤◌, ◌<◌, ◌+◌, ◌∷◌, [], length, get_or, refl}
+use Rattle.std.proofs.Common.{arith, sym, ap, subst, ◌∙◌, ◌<◌, ◌+◌, [], length}
 use lib.ListN.{length-replicate}
-use Rattle.amp_plan.specs.Plans.{tensors_of, keys_of, key_at}
-use Rattle.amp_plan.specs.Limits.{limit_of, PassesNeeds, Tells}
-use Rattle.amp_plan.specs.Rows.{IsRow, ArePushed}
+use Rattle.amp_plan.specs.Plans.{tensors_of, key_at}
+use Rattle.amp_plan.specs.Limits.{PassesNeeds, Tells}
 use Rattle.amp_plan.specs.Marks.{AreNamed}
 use Rattle.amp_plan.proofs.LimitLemmas.{limit-memory}
 use Rattle.amp_plan.proofs.RowLemmas.{get_or-empty}

@@ -1,4 +1,4 @@
-use Rattle.std.proofs.Common.{arith, sym, ap, ap₂, subst, ◌∙◌, ◌≡◌, ◌≤◌, ◌<◌, ◌+◌, ◌∷◌, [], length, get_or}
+use Rattle.std.proofs.Common.{arith, sym, ap, subst, ◌<◌, [], length, get_or}
 use Rattle.amp_plan.specs.Plans.{keys_of}
 use Rattle.amp_plan.specs.Limits.{Tells}
 use Rattle.amp_plan.specs.Rows.{IsRow, AreTurned}

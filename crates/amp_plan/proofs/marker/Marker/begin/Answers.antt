@@ -1,4 +1,4 @@
-use Rattle.std.proofs.Common.{arith, sym, ap, subst, ◌<◌, ◌≤◌, length, []}
+use Rattle.std.proofs.Common.{arith, sym, subst, ◌<◌}
 use Rattle.std.specs.Vec.{vec_capacity}
 use Rattle.amp_plan.specs.Marks.{IsMarked}
 use Rattle.amp_plan.proofs.MarkLemmas.{marked-none}

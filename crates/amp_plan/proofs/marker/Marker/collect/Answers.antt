@@ -1,12 +1,11 @@
-use Rattle.std.proofs.Common.{arith, sym, ap, ap₂, subst, ◌∙◌, ◌≡◌, ◌≤◌, ◌<◌, ◌+◌, ◌∷◌, [], length, get_or}
-use Rattle.airy_math.specs.Keys.{Key, head_or, times}
+use Rattle.std.proofs.Common.{sym, ap, subst, ◌∙◌, ◌≡◌, ◌<◌, ◌+◌, [], length, get_or}
+use Rattle.airy_math.specs.Keys.{head_or, times}
 use Rattle.airy_math.specs.Planned.{planned, IsPlanned}
 use Rattle.airy_math.specs.Ranks.{key_at, ListsPlanned}
-use Rattle.airy_math.specs.NeedsFirst.{NeedsComeFirst}
 use Rattle.airy_math.proofs.PlannedLaw.{head_stands}
 use Rattle.amp_plan.specs.Plans.{tensors_of, keys_of}
 use Rattle.amp_plan.specs.Needs.{named_ranks}
-use Rattle.amp_plan.specs.Marks.{Marks, marked, with_all_new, AreNamed}
+use Rattle.amp_plan.specs.Marks.{marked, AreNamed}
 use Rattle.amp_plan.proofs.NeedLemmas.{head_read, key_read_at, walk_allowed, collected, are_named}
 use Rattle.amp_plan.proofs.marker.Marker.collect.Goals as goal
 

@@ -1,5 +1,5 @@
-use Rattle.std.proofs.Common.{arith, sym, ap, subst, ◌∙◌, ◌≡◌, ◌≤◌, ◌<◌, ℕ, zero, suc, length, get_or, []}
-use lib.ListN.{replicate, length-replicate}
+use Rattle.std.proofs.Common.{arith, sym, ap, subst, ◌∙◌, ◌≡◌, length}
+use lib.ListN.{length-replicate}
 use Rattle.std.specs.Vec.{vec_capacity}
 use Rattle.amp_plan.specs.Marks.{IsMarked}
 use Rattle.amp_plan.proofs.MarkLemmas.{marked-none, zeros-small}

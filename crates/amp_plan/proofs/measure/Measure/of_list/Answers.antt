@@ -1,4 +1,4 @@
-use Rattle.std.proofs.Common.{arith, rules, sym, ap, subst, ◌∙◌, ◌≡◌, ◌≤◌, ◌<◌, ◌+◌, ◌++◌, ◌∷◌, [], length, take, ℕ}
+use Rattle.std.proofs.Common.{arith, rules, sym, subst, ◌≡◌, ◌≤◌, ◌<◌, ◌+◌, ◌++◌, ◌∷◌, [], length, take}
 use Rattle.std.specs.Prelude.{slice_index}
 use Rattle.std.specs.Int.RustNames.{unsigned_abs}
 use mir.Val.{to_z, of_z}

@@ -1,4 +1,4 @@
-use Rattle.std.proofs.Common.{arith, sym, ap, subst, ◌∙◌, ◌≡◌, ◌<◌, [], length, get_or}
+use Rattle.std.proofs.Common.{arith, sym, ap, subst, ◌∙◌, ◌<◌, [], length}
 use Rattle.std.proofs.lemmas.List.{get_or_read}
 use Rattle.amp_plan.specs.Plans.{keys_of}
 use Rattle.amp_plan.specs.Needs.{dependents_at}

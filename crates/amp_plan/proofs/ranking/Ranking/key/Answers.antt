@@ -1,4 +1,4 @@
-use Rattle.std.proofs.Common.{arith, ap, length, get_or, ◌∙◌, ◌≡◌, ◌<◌, sym, subst}
+use Rattle.std.proofs.Common.{arith, ap, length, get_or, ◌∙◌, ◌≡◌}
 use Rattle.airy_math.specs.Ranks.{key_at as key_in, no_key}
 use Rattle.amp_plan.specs.Plans.{key_at, keys_of}
 use Rattle.std.proofs.lemmas.List.{get_or_read}

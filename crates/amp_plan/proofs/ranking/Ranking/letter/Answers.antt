@@ -1,4 +1,4 @@
-use Rattle.std.proofs.Common.{arith, rules, ap, length, ◌∙◌, ◌≡◌, sym, subst}
+use Rattle.std.proofs.Common.{◌∙◌, ◌≡◌, sym, subst}
 use Rattle.amp_plan.specs.Plans.{Planning}
 use Rattle.amp_plan.specs.Places.{letter_power}
 use Rattle.amp_plan.proofs.PlanLemmas.{no_letter, with_letter}

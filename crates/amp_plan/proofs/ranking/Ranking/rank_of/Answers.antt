@@ -1,4 +1,4 @@
-use Rattle.std.proofs.Common.{arith, rules, ap, ap₂, length, ◌∙◌, ◌≡◌, ◌≤◌, ◌<◌, sym, subst, true, false}
+use Rattle.std.proofs.Common.{arith, ap, ap₂, length, ◌∙◌, ◌≡◌, ◌≤◌, ◌<◌, sym, subst, true, false}
 use lib.Dec.{ltb}
 use Rattle.airy_math.specs.Keys.{euler}
 use Rattle.airy_math.specs.Shapes.{covers}

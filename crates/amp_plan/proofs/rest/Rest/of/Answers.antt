@@ -1,14 +1,11 @@
-use Rattle.std.proofs.Common.{arith, rules, sym, ap, ap₂, subst, ◌∙◌, ◌≡◌, ◌≤◌, ◌<◌, ◌+◌, ◌++◌, ◌∷◌, [], length, take, List, ℕ, refl, get_or}
-use Rattle.std.specs.Prelude.{slice_index, ℤ, pos, ◌-ℤ◌, ◌+ℤ◌}
+use Rattle.std.proofs.Common.{arith, rules, sym, ap, subst, ◌∙◌, ◌≡◌, ◌≤◌, ◌<◌, ◌++◌, ◌∷◌, [], length}
+use Rattle.std.specs.Prelude.{slice_index, pos, ◌-ℤ◌}
 use mir.Val.{to_z, of_z}
 use mir.Syntax.{w64}
 use Rattle.std.specs.Int.RustNames.{unsigned_abs}
-use Rattle.std.proofs.lemmas.List.{take_all, length-take-le, take_more}
-use Rattle.std.proofs.lemmas.Int.{ints}
+use Rattle.std.proofs.lemmas.List.{length-take-le, take_more}
 use Rattle.airy_math.specs.Cuts.{natural}
-use Rattle.airy_math.specs.Shapes.{per_n}
 use Rattle.amp_plan.specs.Measures.{IsMeasured}
-use Rattle.amp_plan.specs.Rests.{IsRest}
 use Rattle.amp_plan.proofs.RestLemmas.{IsRead, read-none, read-next, read-small, item_small}
 use Rattle.amp_plan.proofs.rest.Rest.of.Goals as goal
 

@@ -1,7 +1,5 @@
-use Rattle.std.proofs.Common.{arith, rules, refl, ◌≡◌}
-use Rattle.std.proofs.lemmas.Int.{ints}
+use Rattle.std.proofs.Common.{rules}
 use Rattle.amp_plan.specs.Shares.{can_reach}
-use Rattle.amp_plan.proofs.ReachLemmas.{passed_over}
 use Rattle.amp_plan.proofs.share.Share.can_reach.Goals as goal
 
 pub returns-then-self-chosen : goal.returns-then-self-chosen

@@ -1,11 +1,11 @@
-use Rattle.std.proofs.Common.{arith, rules, refl, sym, ap, subst, ◌∙◌, ◌≡◌, ◌≤◌, ◌<◌, ◌^◌, ◌∷◌, ◌-◌, [], length}
-use Rattle.std.specs.Prelude.{pos, ◌-ℤ◌, ◌+ℤ◌, FitsSigned}
+use Rattle.std.proofs.Common.{arith, rules, sym, ap, subst, ◌≡◌, ◌≤◌, ◌<◌, ◌^◌, ◌∷◌, []}
+use Rattle.std.specs.Prelude.{◌+ℤ◌}
 use Rattle.std.specs.Int.RustNames.{unsigned_abs}
 use Rattle.std.proofs.lemmas.Int.{ints}
 use mir.Val.{to_z, of_z}
 use mir.Syntax.{w64}
 use Rattle.airy_math.specs.Shapes.{per_n}
-use Rattle.amp_plan.specs.Measures.{IsMeasured, IsLight, law_excess}
+use Rattle.amp_plan.specs.Measures.{IsMeasured}
 use Rattle.amp_plan.proofs.MeasureLemmas.{measured-light, measured-append}
 use Rattle.amp_plan.proofs.share.Share.of.Goals as goal
 

@@ -1,11 +1,10 @@
-use Rattle.std.proofs.Common.{rules, arith, ◌≡◌, sym, ap, ◌∙◌, refl, true}
+use Rattle.std.proofs.Common.{rules, ◌≡◌, sym, ap, ◌∙◌}
 use Rattle.std.specs.Prelude.{pos}
 use lib.Signed.{le_z}
 use mir.Val.{to_z, of_z}
 use mir.Syntax.{w64}
 use Rattle.airy_math.specs.Keys.{key_of, total}
-use Rattle.airy_math.specs.Shapes.{covers, law_number, eq_z}
-use Rattle.amp_plan.specs.Listing.{is_in}
+use Rattle.airy_math.specs.Shapes.{covers, eq_z}
 use Rattle.amp_plan.proofs.WindowLemmas.{all_in}
 use Rattle.amp_plan.proofs.window.Window.of.Goals as goal
 

@@ -1,9 +1,8 @@
-use Rattle.std.proofs.Common.{arith, rules, sym, ap, subst, ◌∙◌, ◌≡◌, ◌<◌, ◌≤◌, ◌^◌, ◌-◌, ◌+◌, ◌∷◌, [], ℕ, suc, List, false}
+use Rattle.std.proofs.Common.{arith, rules, sym, ap, subst, ◌∙◌, ◌≡◌, ◌<◌, ◌≤◌, ◌-◌, ◌+◌, ◌∷◌, [], ℕ, suc, List, false}
 use Rattle.std.specs.Prelude.{pos, ◌-ℤ◌}
 use mir.Val.{to_z, of_z}
 use mir.Syntax.{w64}
 use Rattle.airy_math.specs.Sums.{below, count_from, each}
-use Rattle.airy_math.specs.Splits.{Split}
 use Rattle.amp_plan.specs.Ranked.{RankedTerm, NameAllowed, Takes}
 use Rattle.amp_plan.specs.Measures.{IsMeasured}
 use Rattle.amp_plan.specs.Shares.{choice_part, more_of, IsChosen, can_reach}
@@ -11,19 +10,19 @@ use Rattle.amp_plan.proofs.WalkLemmas.{takes-none, taken-none, taken-more, taken
 use Rattle.amp_plan.proofs.ChoiceLemmas.{choices-more}
 use Rattle.amp_plan.proofs.ReachLemmas.{passed_over}
 use Rattle.amp_plan.proofs.StageLemmas.{chosen-light, count_short, gain_enough, loss_enough, at_first, at_next, at_light, at_ways, chosen_next}
-use Rattle.amp_plan.proofs.share.+walk_choices.Goals as goal
+use Rattle.amp_plan.proofs.share.+choices.Goals as goal
 
-pub can_reach-requires-clause-light : goal.can_reach-requires-clause-light
-can_reach-requires-clause-light g t c = chosen-light c.args.ranking.now c.args.share.now c.args.left.now c.args.chosen.now c.requires.go_on.split c.requires.share c.requires.go_on.chosen
+pub walk_reachable-can_reach-requires-clause-light : goal.walk_reachable-can_reach-requires-clause-light
+walk_reachable-can_reach-requires-clause-light g t c = chosen-light c.args.ranking.now c.args.share.now c.args.left.now c.args.chosen.now c.requires.go_on.split c.requires.share c.requires.go_on.chosen
 
-pub returns-then-not-can_reach : goal.returns-then-not-can_reach
-returns-then-not-can_reach g t c = λ s k.
+pub walk_reachable-returns-then-not-can_reach : goal.walk_reachable-returns-then-not-can_reach
+walk_reachable-returns-then-not-can_reach g t c = λ s k.
     let out : can_reach c.args.share.now c.args.chosen.now ≡ false = sym c.can_reach.ensures ∙ c.if-not-can_reach.true in
     subst (λ ts. Takes g.V.TermVisitor.allows g.V.TermVisitor.state g.V.TermVisitor.step ts c.args.visitor.now c.args.visitor.now) (sym (passed_over c.args.ranking.now c.args.share.now c.args.left.now c.args.chosen.now s c.requires.share k out))
     (takes-none g.V.TermVisitor.allows g.V.TermVisitor.state g.V.TermVisitor.step c.args.visitor.now)
 
-pub before-next-requires-clause-gain : goal.before-next-requires-clause-gain
-before-next-requires-clause-gain g t c =
+pub walk_choices-before-next-requires-clause-gain : goal.walk_choices-before-next-requires-clause-gain
+walk_choices-before-next-requires-clause-gain g t c =
     let p = c.args.ranking.now in
     let h = c.args.share.now in
     let r = c.in-Some.run'.now in
@@ -34,8 +33,8 @@ before-next-requires-clause-gain g t c =
     let item : c.of-item.result.excess ≡ pos r.0 -ℤ h.per_n = search rules in
     gain_enough p h r others c.args.chosen.now s k c.of-item.result.excess item
 
-pub before-next-requires-clause-loss : goal.before-next-requires-clause-loss
-before-next-requires-clause-loss g t c =
+pub walk_choices-before-next-requires-clause-loss : goal.walk_choices-before-next-requires-clause-loss
+walk_choices-before-next-requires-clause-loss g t c =
     let p = c.args.ranking.now in
     let h = c.args.share.now in
     let r = c.in-Some.run'.now in
@@ -46,9 +45,9 @@ before-next-requires-clause-loss g t c =
     let item : c.of-item.result.excess ≡ pos r.0 -ℤ h.per_n = search rules in
     loss_enough p h r others c.args.chosen.now s k c.of-item.result.excess item
 
-pub loop-taken-init : goal.loop-taken-init
+pub walk_choices-loop-taken-init : goal.walk_choices-loop-taken-init
 unfolding below
-loop-taken-init g t c =
+walk_choices-loop-taken-init g t c =
     let p = c.args.ranking.now in
     let h = c.args.share.now in
     let r = c.in-Some.run'.now in
@@ -64,8 +63,8 @@ loop-taken-init g t c =
           subst (λ n. HasTaken g.V.TermVisitor.allows g.V.TermVisitor.state g.V.TermVisitor.step f (below (suc r.1)) (count_from 0 n) c.args.visitor.now c.args.visitor.now) n (taken-none g.V.TermVisitor.allows g.V.TermVisitor.state g.V.TermVisitor.step f (below (suc r.1)) c.args.visitor.now);
     }
 
-pub walk_choices-requires : goal.walk_choices-requires
-walk_choices-requires g t c κs within =
+pub walk_choices-walk_reachable-requires : goal.walk_choices-walk_reachable-requires
+walk_choices-walk_reachable-requires g t c κs within =
     let p = c.args.ranking.now in
     let h = c.args.share.now in
     let r = c.in-Some.run'.now in
@@ -98,8 +97,8 @@ walk_choices-requires g t c κs within =
       ),
     )
 
-pub one_more-next-requires-clause-part : goal.one_more-next-requires-clause-part
-one_more-next-requires-clause-part g t c =
+pub walk_choices-one_more-next-requires-clause-part : goal.walk_choices-one_more-next-requires-clause-part
+walk_choices-one_more-next-requires-clause-part g t c =
     let p = c.args.ranking.now in
     let h = c.args.share.now in
     let r = c.in-Some.run'.now in
@@ -109,8 +108,8 @@ one_more-next-requires-clause-part g t c =
     let k : IsChosen p h (r ∷ others) c.args.chosen.now s = subst (λ l. IsChosen p h l c.args.chosen.now s) first c.requires.go_on.chosen in
     at_light p h r others c.args.chosen.now s k c.requires.share c.loop-taken.next c.loop-taken.taken (search rules) (omega (arith, c.loop-taken.invariant.within)) (c.loop-taken.invariant.at s c.requires.go_on.chosen)
 
-pub one_more-next-requires-clause-short : goal.one_more-next-requires-clause-short
-one_more-next-requires-clause-short g t c =
+pub walk_choices-one_more-next-requires-clause-short : goal.walk_choices-one_more-next-requires-clause-short
+walk_choices-one_more-next-requires-clause-short g t c =
     let p = c.args.ranking.now in
     let h = c.args.share.now in
     let r = c.in-Some.run'.now in
@@ -120,8 +119,8 @@ one_more-next-requires-clause-short g t c =
     let k : IsChosen p h (r ∷ others) c.args.chosen.now s = subst (λ l. IsChosen p h l c.args.chosen.now s) first c.requires.go_on.chosen in
     count_short p h r others c.args.chosen.now s k
 
-pub one_more-next-requires-clause-ways : goal.one_more-next-requires-clause-ways
-one_more-next-requires-clause-ways g t c =
+pub walk_choices-one_more-next-requires-clause-ways : goal.walk_choices-one_more-next-requires-clause-ways
+walk_choices-one_more-next-requires-clause-ways g t c =
     let p = c.args.ranking.now in
     let h = c.args.share.now in
     let r = c.in-Some.run'.now in
@@ -131,20 +130,8 @@ one_more-next-requires-clause-ways g t c =
     let k : IsChosen p h (r ∷ others) c.args.chosen.now s = subst (λ l. IsChosen p h l c.args.chosen.now s) first c.requires.go_on.chosen in
     at_ways p h r others c.args.chosen.now s k c.loop-taken.next c.loop-taken.taken (c.loop-taken.invariant.at s c.requires.go_on.chosen)
 
-pub overflow_add-taken : goal.overflow_add-taken
-overflow_add-taken g t c =
-    let p = c.args.ranking.now in
-    let h = c.args.share.now in
-    let r = c.in-Some.run'.now in
-    let others = c.in-Some.others.now in
-    let first : c.args.left.now ≡ r ∷ others = search rules in
-    let s = c.requires.go_on.split in
-    let k : IsChosen p h (r ∷ others) c.args.chosen.now s = subst (λ l. IsChosen p h l c.args.chosen.now s) first c.requires.go_on.chosen in
-    let few : r.1 ≤ 25 = count_short p h r others c.args.chosen.now s k in
-    omega (arith, few, c.loop-taken.invariant.within)
-
-pub loop-taken-preserved : goal.loop-taken-preserved
-loop-taken-preserved g t c =
+pub walk_choices-loop-taken-preserved : goal.walk_choices-loop-taken-preserved
+walk_choices-loop-taken-preserved g t c =
     let p = c.args.ranking.now in
     let h = c.args.share.now in
     let r = c.in-Some.run'.now in
@@ -158,12 +145,12 @@ loop-taken-preserved g t c =
       at = λ s k'. at_next p h r others c.args.chosen.now s (subst (λ l. IsChosen p h l c.args.chosen.now s) first k') c.loop-taken.next c.one_more-next.result c.loop-taken.taken c.of-item.result (c.loop-taken.invariant.at s k') item c.one_more-next.ensures;
       taken = λ s k'.
           taken-more g.V.TermVisitor.allows g.V.TermVisitor.state g.V.TermVisitor.step (λ t. choice_part p h (more_of s r t) others) (below (suc r.1)) (count_from c.loop-taken.taken (suc r.1 - c.loop-taken.taken)) (count_from (c.loop-taken.taken + 1) (suc r.1 - (c.loop-taken.taken + 1)))
-          c.loop-taken.taken c.args.visitor.now c.loop-taken.visitor c.walk_choices.new.visitor (count-next c.loop-taken.taken r.1 taken) (c.loop-taken.invariant.taken s k')
-          (c.walk_choices.ensures (more_of s r c.loop-taken.taken) (chosen_next p h r others c.args.chosen.now s (subst (λ l. IsChosen p h l c.args.chosen.now s) first k') c.loop-taken.next c.loop-taken.taken (search rules) taken (c.loop-taken.invariant.at s k')));
+          c.loop-taken.taken c.args.visitor.now c.loop-taken.visitor c.walk_reachable.new.visitor (count-next c.loop-taken.taken r.1 taken) (c.loop-taken.invariant.taken s k')
+          (c.walk_reachable.ensures (more_of s r c.loop-taken.taken) (chosen_next p h r others c.args.chosen.now s (subst (λ l. IsChosen p h l c.args.chosen.now s) first k') c.loop-taken.next c.loop-taken.taken (search rules) taken (c.loop-taken.invariant.at s k')));
     }
 
-pub returns-then-taken-run : goal.returns-then-taken-run
-returns-then-taken-run g t c = λ s k'.
+pub walk_choices-returns-then-taken-run : goal.walk_choices-returns-then-taken-run
+walk_choices-returns-then-taken-run g t c = λ s k'.
     let p = c.args.ranking.now in
     let h = c.args.share.now in
     let r = c.in-Some.run'.now in
@@ -173,8 +160,8 @@ returns-then-taken-run g t c = λ s k'.
     let last : r.1 < c.loop-taken.taken + 1 = omega (arith, c.if-taken-run.true) in
     let f : ℕ → List RankedTerm = λ t. choice_part p h (more_of s r t) others in
     let whole = taken-more g.V.TermVisitor.allows g.V.TermVisitor.state g.V.TermVisitor.step f (below (suc r.1)) (count_from c.loop-taken.taken (suc r.1 - c.loop-taken.taken)) (count_from (c.loop-taken.taken + 1) (suc r.1 - (c.loop-taken.taken + 1)))
-    c.loop-taken.taken c.args.visitor.now c.loop-taken.visitor c.walk_choices.new.visitor (count-next c.loop-taken.taken r.1 taken) (c.loop-taken.invariant.taken s k')
-    (c.walk_choices.ensures (more_of s r c.loop-taken.taken) (chosen_next p h r others c.args.chosen.now s (subst (λ l. IsChosen p h l c.args.chosen.now s) first k') c.loop-taken.next c.loop-taken.taken (search rules) taken (c.loop-taken.invariant.at s k'))) in
-    subst (λ ts. Takes g.V.TermVisitor.allows g.V.TermVisitor.state g.V.TermVisitor.step ts c.args.visitor.now c.walk_choices.new.visitor) (sym (ap (choice_part p h s) first ∙ choices-more p h s r others))
-    (taken-all g.V.TermVisitor.allows g.V.TermVisitor.state g.V.TermVisitor.step f (below (suc r.1)) (count_from (c.loop-taken.taken + 1) (suc r.1 - (c.loop-taken.taken + 1))) c.args.visitor.now c.walk_choices.new.visitor
+    c.loop-taken.taken c.args.visitor.now c.loop-taken.visitor c.walk_reachable.new.visitor (count-next c.loop-taken.taken r.1 taken) (c.loop-taken.invariant.taken s k')
+    (c.walk_reachable.ensures (more_of s r c.loop-taken.taken) (chosen_next p h r others c.args.chosen.now s (subst (λ l. IsChosen p h l c.args.chosen.now s) first k') c.loop-taken.next c.loop-taken.taken (search rules) taken (c.loop-taken.invariant.at s k'))) in
+    subst (λ ts. Takes g.V.TermVisitor.allows g.V.TermVisitor.state g.V.TermVisitor.step ts c.args.visitor.now c.walk_reachable.new.visitor) (sym (ap (choice_part p h s) first ∙ choices-more p h s r others))
+    (taken-all g.V.TermVisitor.allows g.V.TermVisitor.state g.V.TermVisitor.step f (below (suc r.1)) (count_from (c.loop-taken.taken + 1) (suc r.1 - (c.loop-taken.taken + 1))) c.args.visitor.now c.walk_reachable.new.visitor
     (count-over (c.loop-taken.taken + 1) r.1 last) whole)
