@@ -59,6 +59,7 @@ fn sum_of(a: i128, c: i128) -> Option<i128>
 }
 
 /// The first number m times as great and the second n times as great, added up, where all three are in range.
+#[inline(always)]
 pub(crate) fn sum_of_multiples(a: i128, m: u128, c: i128, n: u128) -> Option<i128>
     ensures { result ≡ ranged_sum (a *ℤ pos m) (c *ℤ pos n) }
 {
