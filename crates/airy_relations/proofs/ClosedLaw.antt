@@ -10,14 +10,15 @@ use Rattle.std.proofs.lemmas.Bool.{cases_order}
 use Rattle.airy_math.specs.Rational.{ℚ}
 use Rattle.airy_math.specs.Sums.{below, count_from}
 use Rattle.airy_math.specs.Relations.{rel_AA, rel_BA, rel_BB, rel_BC, rel_D, Close}
-use Rattle.airy_math.specs.Tensors.{Tensors, IsSymmetric}
+use Rattle.airy_math.specs.Tensors.{Tensors, IsSymmetric, same_number}
 use Rattle.airy_relations.specs.Sides.{Rel, AA, BA, BB, BC, D, obtained_side}
 use Rattle.airy_relations.specs.Places.{Place, indices, choices_k, choices_l, from_to}
-use Rattle.airy_relations.specs.Verdicts.{Verdict, Closed, Differs, Over, same_number, compared, or_later, first_over, verdict_at, verdict}
+use Rattle.airy_relations.specs.Verdicts.{Verdict, Closed, Differs, Over, compared, or_later, first_over, verdict_at, verdict}
 use Rattle.airy_relations.specs.Walks.{place, over_l, over_k, over_j, over_i}
 use Rattle.airy_relations.specs.Numbers.{expression, Fails, TellsFailure}
 use Rattle.airy_relations.proofs.ExactLemmas.{side_exact, expression_is}
-use Rattle.airy_relations.proofs.VerdictLemmas.{verdict_is, same_true, same_self}
+use Rattle.airy_relations.proofs.VerdictLemmas.{verdict_is}
+use Rattle.airy_math.proofs.SameNumbers.{same_true, same_self}
 
 -- ---- one place
 

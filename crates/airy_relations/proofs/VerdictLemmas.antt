@@ -18,12 +18,12 @@ use Rattle.airy_math.specs.Rational.{ℚ, same_parts}
 use Rattle.std.specs.Ordering.{int_eq}
 use Rattle.std.proofs.lemmas.Bool.Decides.{Decides-int_eq}
 use Rattle.airy_math.specs.Shapes.{eq_z}
-use Rattle.airy_math.proofs.SolutionLaw.{le_self, T_true}
+use Rattle.airy_math.proofs.SameNumbers.{same_true, same_self}
 use Rattle.airy_math.specs.Sums.{below, count_from, each}
-use Rattle.airy_math.specs.Tensors.{Tensors}
+use Rattle.airy_math.specs.Tensors.{Tensors, same_number}
 use Rattle.airy_relations.specs.Sides.{Rel, AA, BA, BB, BC, D, obtained_side}
 use Rattle.airy_relations.specs.Places.{indices, choices_k, choices_l, from_to, places, places_of}
-use Rattle.airy_relations.specs.Verdicts.{Verdict, Closed, Differs, Over, same_number, compared, or_later, first_over, verdict_at, verdict}
+use Rattle.airy_relations.specs.Verdicts.{Verdict, Closed, Differs, Over, compared, or_later, first_over, verdict_at, verdict}
 use Rattle.airy_relations.specs.Walks.{place, over_l, over_k, over_j, over_i}
 
 -- ---- the first verdict over lists
@@ -122,25 +122,6 @@ unfolding first_over
 walk_end f a b h = ap (λ xs. first_over xs f) (from_nothing a b h)
 
 -- ---- the verdict of one place
-
-same_z : (a b : ℤ) → eq_z a b ≡ true → a ≡ b
-unfolding eq_z
-same_z a b h = let u = and_parts (le_z a b) (le_z b a) h in both a b u.0 u.1
-  where
-    both : (a b : ℤ) → le_z a b ≡ true → le_z b a ≡ true → a ≡ b
-    both a b p q = omega (arith, ints)
-
-self_z : (a : ℤ) → eq_z a a ≡ true
-unfolding eq_z
-self_z a = and_from (le_z a a) (le_z a a) (T_true (le_z a a) (le_self a).le) (T_true (le_z a a) (le_self a).le)
-
-pub same_true : (x y : ℚ) → same_number x y ≡ true → x ≡ y
-unfolding same_number
-same_true x y h = let u = and_parts (eq_z x.num y.num) (eqb x.den y.den) h in same_parts x y (same_z x.num y.num u.0) (eqb-true x.den y.den u.1)
-
-pub same_self : (x : ℚ) → same_number x x ≡ true
-unfolding same_number
-same_self x = and_from (eq_z x.num x.num) (eqb x.den x.den) (self_z x.num) (eq-eqb x.den x.den refl)
 
 -- the verdict by the two sides
 at_sides : (T : Tensors) (rel : Rel) (i j k l : ℕ) (o o' : Option ℚ) → o ≡ obtained_side T rel i j k l → o' ≡ obtained_side T rel j i k l → verdict_at T (place rel i j k l) ≡ compared (place rel i j k l) o o'

@@ -1,20 +1,14 @@
 -- What a check finds: the verdict of the first place that isn't fine.
 use Prim.Native.Nat.{ℕ}
-use mathlib.Core.Bool.{Bool, ◌&&◌, cond}
+use mathlib.Core.Bool.{cond}
 use mathlib.Core.List.{List, [], ◌∷◌}
-use lib.Dec.{eqb}
 use Rattle.std.specs.Prelude.{Option, Some, None}
 use Rattle.airy_math.specs.Rational.{ℚ}
-use Rattle.airy_math.specs.Shapes.{eq_z}
-use Rattle.airy_math.specs.Tensors.{Tensors}
+use Rattle.airy_math.specs.Tensors.{Tensors, same_number}
 use Rattle.airy_relations.specs.Sides.{obtained_side}
 use Rattle.airy_relations.specs.Places.{Place, indices, places}
 pub use Rattle.airy_relations.specs.declared.verdict.Verdict.{Verdict}
 pub use Rattle.airy_relations.specs.declared.verdict.Verdict.TheVariants.{Closed, Differs, Over}
-
--- whether two numbers are equal
-unfoldable pub same_number : ℚ → ℚ → Bool
-same_number x y = eq_z x.num y.num && eqb x.den y.den
 
 -- The verdict of a place with these two sides: it is fine where both are obtained and equal.
 unfoldable pub compared : Place → Option ℚ → Option ℚ → Verdict

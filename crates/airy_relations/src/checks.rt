@@ -155,6 +155,6 @@ pub fn check(t: &Tensors, places: u8) -> Verdict
     ensures closed { result ≡ Verdict.Closed → Close (looked_up t.now) places }
     ensures differs { TellsFailure (looked_up t.now) places result }
 {
-    t.are_sound();
+    t.soundness_fact();
     check_all(t, places)
 }

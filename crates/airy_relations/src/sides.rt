@@ -36,7 +36,7 @@ fn line_of_c(t: &Tensors, i: u8, l: u8) -> Line<'_>
     requires { l < (looked_up t.now).dim }
     ensures { others result.l result.rest.now ≡ row_of (λ a. (looked_up t.now).C i l a) 0 (looked_up t.now).dim }
 {
-    t.are_sound();
+    t.soundness_fact();
     Line {
         rest: t.row_c(i),
         l,
@@ -52,12 +52,12 @@ fn side_ba(t: &Tensors, i: u8, j: u8, k: u8, l: u8) -> Option<Frac>
     let mut third = row_of_b(t, i, l);
     let mut total = zero();
     while let Some(a) = least(first.index(), second.index(), third.index()) {
-        total.in_range();
+        total.range_fact();
         total = add_product(total, first.take_at(a), t.a(a, k, l))?;
         total = add_product(total, second.take_at(a), t.a(j, a, l))?;
         total = add_product(total, third.take_at(a), t.a(j, a, k))?;
     }
-    total.in_range();
+    total.range_fact();
     Some(total)
 }
 
@@ -71,12 +71,12 @@ fn side_bb(t: &Tensors, i: u8, j: u8, k: u8, l: u8) -> Option<Frac>
     let mut third = line_of_c(t, i, l);
     let mut total = zero();
     while let Some(a) = least(first.index(), second.index(), third.index()) {
-        total.in_range();
+        total.range_fact();
         total = add_product(total, first.take_at(a), t.b(a, k, l))?;
         total = add_product(total, second.take_at(a), t.b(j, a, l))?;
         total = add_product(total, third.take_at(a), t.a(j, a, k))?;
     }
-    total.in_range();
+    total.range_fact();
     Some(total)
 }
 
@@ -91,12 +91,12 @@ fn side_bc(t: &Tensors, i: u8, j: u8, k: u8, l: u8) -> Option<Frac>
     let mut third = line_of_c(t, i, l);
     let mut total = zero();
     while let Some(a) = least(first.index(), second.index(), third.index()) {
-        total.in_range();
+        total.range_fact();
         total = add_product(total, first.take_at(a), t.c(a, k, l))?;
         total = add_product(total, second.take_at(a), t.b(j, a, l))?;
         total = add_product(total, third.take_at(a), t.b(j, a, k))?;
     }
-    total.in_range();
+    total.range_fact();
     Some(total)
 }
 
@@ -135,7 +135,7 @@ pub(crate) fn side(t: &Tensors, rel: Rel, i: u8, j: u8, k: u8, l: u8) -> Option<
     match rel {
         Rel::AA => {
             let entry = t.a(i, j, k);
-            entry.in_range();
+            entry.range_fact();
             Some(entry)
         }
         Rel::BA => side_ba(t, i, j, k, l),

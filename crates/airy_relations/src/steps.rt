@@ -38,7 +38,7 @@ pub(crate) fn add_product(total: Frac, x: Frac, y: Frac) -> Option<Frac>
     ensures { result ≡ added (Some total) (Times x y) }
 {
     if x.is_zero() || y.is_zero() {
-        total.in_range();
+        total.range_fact();
         return Some(total);
     }
     total.add(x.mul(y)?)

@@ -1,6 +1,8 @@
 -- What is printed of stored tensors is what is printed of those that they stand for.
 use Rattle.std.proofs.Common.{subst, ◌≡◌, ◌⊎◌, inl, inr, ℕ, refl, sym, ap, ◌∙◌, false, cond, true, Bool}
-use Rattle.std.specs.Prelude.{List, map, Option, Some, None}
+use Rattle.std.proofs.lemmas.List.{length-map}
+use Rattle.amp_terms.proofs.OutcomeLemmas.{length-all}
+use Rattle.std.specs.Prelude.{List, length, map, Option, Some, None}
 use Rattle.airy_math.specs.Keys.{Key}
 use Rattle.airy_math.specs.declared.Shape.{Shape}
 use Rattle.airy_math.specs.Tensors.{Tensors, SameEntries}
@@ -15,11 +17,12 @@ use Rattle.series_law.specs.SameTables.{SameTablesLaw}
 use Rattle.sparse_tensor.specs.Entries.{Entries, looked_up}
 use Rattle.amp_plan.specs.Plans.{Planning, keys_of, tensors_of}
 use Rattle.amp_plan.specs.Limits.{Limit, Within, limit, limit_of, Tells}
-use Rattle.amp_plan.specs.declared.plan.PlanCause.{PlanCause}
-use Rattle.amp_plan.specs.declared.plan.PlanCause.TheVariants as cause
+use Rattle.amp_plan.specs.declared.PlanCause.{PlanCause}
+use Rattle.amp_plan.specs.declared.PlanCause.TheVariants as cause
 use Rattle.amp_terms.specs.Tables.{full_table}
 use Rattle.series_law.specs.Check.{Verdict, check}
 use Rattle.constraint_check.specs.Ends.{outcomes_of}
+use Rattle.airy_io.specs.Causes.{Taking}
 use Rattle.airyrun.specs.Report.{Report, Ends, EndsOrWants, out_of_memory, bound_refused}
 use Rattle.named_families.specs.Families.{Names}
 use Rattle.named_families.specs.declared.petersson.MakeErr.{MakeErr}
@@ -43,7 +46,7 @@ same_cells t T letter X below tables same stored =
     same_parts t.letter letter (looked_up t).shape T.shape (planned (looked_up t) X) (planned T X) (outcomes (looked_up t) X) (outcomes T X) (verdict_of (looked_up t) X) (verdict_of T X)
     stored same.shape ((below (looked_up t) T same).plan X) (tables (looked_up t) T same X).outcomes (same_verdicts t T X tables same)
 
-same_limit : (t : Entries) (T : Tensors) (X : ℕ) → PlanLaw → BelowDimLaw → SameEntries (looked_up t) T → limit (looked_up t) X ≡ limit T X
+pub same_limit : (t : Entries) (T : Tensors) (X : ℕ) → PlanLaw → BelowDimLaw → SameEntries (looked_up t) T → limit (looked_up t) X ≡ limit T X
 same_limit t T X once below same = limit_same (looked_up t) T X once (below (looked_up t) T same)
 
 -- what is printed of a table, by what its check finds
@@ -53,6 +56,11 @@ unfolding cells_report verdict_of outcomes_of keys_of tensors_of looked_up
 cells_at p table v whole found =
     ap (λ cells. checked_report p.tensors.letter p.tensors.shape (planned (tensors_of p) p.bound) cells (check (tensors_of p) p.bound (outcomes (tensors_of p) p.bound))) (sym whole)
     ∙ ap (checked_report p.tensors.letter p.tensors.shape (planned (tensors_of p) p.bound) table) found
+
+-- the whole table has a cell for each key
+pub full-length : (p : Planning) → length (full_table (tensors_of p) p.bound) ≡ length (keys_of p)
+unfolding full_table
+full-length p = length-map (outcomes (tensors_of p) p.bound) Some ∙ length-all p
 
 -- a cause tells the report, or memory is wanting
 pub told_cause : (p : Planning) (why : PlanCause) (cells : Report) → Tells p why → (cause_report why ≡ plan_report p.bound (limit_of p) cells) ⊎ (cause_report why ≡ out_of_memory)
@@ -106,15 +114,15 @@ pub report_of_cause : (t : Entries) (X : ℕ) (why : PlanCause) → Tells (recor
 unfolding limit_of tensors_of stored_report
 report_of_cause t X why tells = told_cause (record { tensors = t; bound = X }) why (cells_report t.letter (looked_up t) X) tells
 
-pub ends_by : (report other : Report) (before now : ℕ) (old new : Option (List ℕ)) (result : ℕ) → (other ≡ report) ⊎ (other ≡ out_of_memory) → Ends other before now old new result → EndsOrWants report before now old new result
-ends_by report other before now old new result (inl e) h = inl (subst (λ r. Ends r before now old new result) e h)
-ends_by report other before now old new result (inr e) h = inr (subst (λ r. Ends r before now old new result) e h)
+pub ends_by : (report other : Report) (before now : Taking) (result : ℕ) → (other ≡ report) ⊎ (other ≡ out_of_memory) → Ends other before now result → EndsOrWants report before now result
+ends_by report other before now result (inl e) h = inl (subst (λ r. Ends r before now result) e h)
+ends_by report other before now result (inr e) h = inr (subst (λ r. Ends r before now result) e h)
 
 -- where a structure's tensors aren't made: the report of a number that leaves the range, or want of memory
-pub error_ends : (s : Structure) (X : ℕ) (why : MakeErr) (before now : ℕ) (old new : Option (List ℕ)) (result : ℕ) → is_bound X ≡ true → Names why (making_over s X)
-    → Ends (making_error why) before now old new result → EndsOrWants (table_report s X) before now old new result
+pub error_ends : (s : Structure) (X : ℕ) (why : MakeErr) (before now : Taking) (result : ℕ) → is_bound X ≡ true → Names why (making_over s X)
+    → Ends (making_error why) before now result → EndsOrWants (table_report s X) before now result
 unfolding making_error Names making_report table_report
-error_ends s X why before now old new result bounded named h = ends_by (table_report s X) (making_error why) before now old new result (said why named) h
+error_ends s X why before now result bounded named h = ends_by (table_report s X) (making_error why) before now result (said why named) h
   where
     said : (why : MakeErr) → Names why (making_over s X) → (making_error why ≡ table_report s X) ⊎ (making_error why ≡ out_of_memory)
     said (make.Over k) named = inl (rw (bounded, named) refl)

@@ -1,25 +1,34 @@
 -- The status of a run and its cause, both ways.
-use Rattle.std.proofs.Common.{◌≡◌, ◌≢◌, ◌⊎◌, inl, inr, ℕ, ◌≤◌, ◌<◌, ◌++◌, [], arith, refl, sym, ap, ◌∙◌, subst, length, append-nil, IsTrue}
+use Rattle.std.proofs.Common.{◌≡◌, ◌≢◌, ◌⊎◌, inl, inr, ℕ, ◌≤◌, ◌<◌, ◌==◌, ◌++◌, [], arith, refl, sym, ap, ◌∙◌, subst, length, append-nil}
+use Rattle.std.proofs.lemmas.Bool.Decides.{nat_tests}
 use Rattle.std.specs.Prelude.{Option, Some, None, Bool, true, false, cond, List, nat_le}
 use Rattle.std.specs.Io.KnownBytes.{Consumes, IsAtEnd}
-use Rattle.airy_io.specs.Causes.{Rose}
-use Rattle.airy_math.specs.Tensors.{Tensors}
-use Rattle.airy_math.specs.Planned.{planned}
+use Rattle.airy_io.specs.Causes.{Giving, Rose}
 use Rattle.airy_math.specs.Jobs.{Structure, planned_tensors}
 use Rattle.amp_plan.specs.Limits.{Limit, Within, PassesBound, PassesCells, PassesNeeds, limit}
-use Rattle.amp_terms.specs.Tables.{full_table}
 use Rattle.series_law.specs.Check as check
 use Rattle.sparse_tensor.specs.Entries.{Entries}
 use Rattle.tensor_text.specs.Grammar.{TextReading, Read}
 use Rattle.tensor_text.specs.Grammar as grammar
-use Rattle.airyrun.specs.Words.{Reading, Named, Text, Table, Probe, Relations, Refused, reading_of}
+use Rattle.tensor_text.specs.Answers.{IsWhole}
+use Rattle.ask_seats.specs.Replies.{Reply, lines_text}
+use Rattle.ask_seats.specs.Sessions.{Admitted}
+use Rattle.command_words.specs.declared.line.Line.{Line}
+use Rattle.airy_relations.specs.declared.verdict.Verdict.{Verdict}
+use Rattle.airy_relations.specs.declared.verdict.Verdict.TheVariants.{Closed, Differs, Over}
+use Rattle.airy_relations.specs.Verdicts.{verdict}
+use Rattle.sparse_tensor.specs.Entries.{looked_up}
+use Rattle.airyrun.specs.Relations.{relations_report, of_relations, text_relations}
+use Rattle.command_words.specs.Words.{Reading, Named, Text, Table, Session, Probe, Relations, Refused}
+use Rattle.command_words.specs.Options.{reading_of}
 use Rattle.airyrun.specs.Report.{Report, bound_refused, out_of_memory}
-use Rattle.airyrun.specs.Tables.{has_letter, is_bound, structure_of, making_over, making_report, checked_report, verdict_of, plan_report, cells_report, table_report}
+use Rattle.airyrun.specs.Tables.{is_bound, structure_of, text_structure, making_over, making_report, plan_report, table_report}
+use Rattle.airyrun.specs.Sessions.{session_of, session_report, LeadsToSession}
 use Rattle.airyrun.specs.Texts.{read_fault, text_too_long, line_refused}
-use Rattle.airyrun.specs.Run.{Run, Answers, Leads, LeadsToTable, LeadsFromText, failed, wanting, long, refused, read, LeadsWithBound, beyond, within, AsksForNoText}
-use Rattle.airyrun.specs.Laws.{of_reading, of_text, closed_table, probed_table, checked_relations, meant, Gives, TakesMemory, HasText, HasCauses, CausesLaw, CompletenessLaw, IsMade, whole_table, Step, TableStepsLaw}
-use Rattle.airyrun.specs.Laws as steps
-use Rattle.airyrun.proofs.RunLemmas.{IsOther, other_table, other_family, other_probe, other_closed_table, other_family_relations, other_text_relations}
+use Rattle.airyrun.specs.Run.{Run, Answers, Leads, LeadsToTable, LeadsFromText, failed, wanting, long, refused, read, LeadsWithBound, beyond, within}
+use Rattle.airyrun.specs.Laws.{of_reading, of_text, closed_table, closed_session, probed_table, meant, MayReply, OneStatusLaw, OneReportLaw, Gives, GivesMeant, TakesMemory, HasCauses, IsComplete}
+use Rattle.airyrun.proofs.RunLemmas.{other_family, other_probe, other_closed_table, other_family_session, other_closed_session, other_family_relations, other_text_relations}
+use Rattle.airyrun.proofs.StatusLemmas.{IsPlain, IsOther, plain_ample, plain_table, plain_session, plain_of, plain_checked, plain_family, plain_text, plain_bound}
 
 -- what led to the status and the bytes
 pub record Told (run : Run) : Type 0 where
@@ -39,52 +48,66 @@ not_nine n s e h k = h (sym e ∙ k)
 -- ---- words that are refused
 
 -- no report that a text leads to is that of a refused word
-other_text : (next : Entries → Report → Type 0) (left left' : Option (List ℕ)) (faults faults' : ℕ) (report : Report) → ((t : Entries) (r : Report) → next t r → IsOther r)
-    → LeadsFromText next left left' faults faults' report → report.status ≢ 2
+other_text : (next : Entries → Report → Type 0) (old new : Giving) (report : Report) → ((t : Entries) (r : Report) → next t r → IsOther r)
+    → LeadsFromText next old new report → report.status ≢ 2
 unfolding read_fault text_too_long line_refused
-other_text next left left' faults faults' report other (failed rose e) h = omega (arith, status_of e)
-other_text next left left' faults faults' report other (wanting kept e) h = omega (arith, status_of e)
-other_text next left left' faults faults' report other (long kept text consumed len e) h = omega (arith, status_of e)
-other_text next left left' faults faults' report other (refused kept text n kind consumed whole e) h = omega (arith, status_of e)
-other_text next left left' faults faults' report other (read kept text t consumed whole leads) h = (other t report leads).0 h
+other_text next old new report other (failed rose e) h = omega (arith, status_of e)
+other_text next old new report other (wanting kept e) h = omega (arith, status_of e)
+other_text next old new report other (long kept text consumed len e) h = omega (arith, status_of e)
+other_text next old new report other (refused kept text n kind consumed whole e) h = omega (arith, status_of e)
+other_text next old new report other (read kept text t consumed whole leads) h = (other t report leads).0 h
 
-other_bound : (X : ℕ) (next : Entries → Report → Type 0) (left left' : Option (List ℕ)) (faults faults' : ℕ) (report : Report) → ((t : Entries) (r : Report) → next t r → IsOther r)
-    → LeadsWithBound X next left left' faults faults' report → report.status ≢ 2
-other_bound X next left left' faults faults' report other (beyond outside same kept e) h = omega (arith, status_of e)
-other_bound X next left left' faults faults' report other (within bounded leads) h = other_text next left left' faults faults' report other leads h
+other_bound : (X : ℕ) (next : Entries → Report → Type 0) (old new : Giving) (report : Report) → ((t : Entries) (r : Report) → next t r → IsOther r)
+    → LeadsWithBound X next old new report → report.status ≢ 2
+other_bound X next old new report other (beyond outside same e) h = omega (arith, status_of e)
+other_bound X next old new report other (within bounded leads) h = other_text next old new report other leads h
 
 refused_word : (run : Run) → Answers run → run.status ≡ 2 → (place : ℕ) × (reading_of run.words ≡ Refused place)
 refused_word run answers e = let t = told_by run answers (not_nine 2 run.status e (λ k. omega arith)) in cause (reading_of run.words) refl t.report t.leads (sym t.gives.0 ∙ e)
   where
     cause : (r : Reading) → reading_of run.words ≡ r → (report : Report) → Leads r run report → report.status ≡ 2 → (place : ℕ) × (reading_of run.words ≡ Refused place)
     cause (Refused place) e report leads h = (place, e)
-    cause (Table (Named family) X) e report leads h = absurd ((other_family family X report leads).0 h)
-    cause (Table Text X) e report leads h = absurd (other_bound X _ _ _ _ _ report (other_closed_table X) leads h)
-    cause (Probe X) e report leads h = absurd (other_bound X _ _ _ _ _ report (other_probe X) leads h)
+    cause (Table (Named family) X workers) e report leads h = absurd ((other_family family X report leads).0 h)
+    cause (Table Text X workers) e report leads h = absurd (other_bound X _ _ _ report (other_closed_table X) leads h)
+    cause (Session (Named family) X workers lines) e report leads h = absurd ((other_family_session family X workers lines report leads).0 h)
+    cause (Session Text X workers lines) e report leads h = absurd (other_bound X _ _ _ report (other_closed_session X workers lines) leads h)
+    cause (Probe X workers) e report leads h = absurd (other_bound X _ _ _ report (other_probe X) leads h)
     cause (Relations N (Named family)) e report leads h = absurd ((other_family_relations family N report leads).0 h)
-    cause (Relations N Text) e report leads h = absurd (other_text _ _ _ _ _ report (other_text_relations N) leads h)
+    cause (Relations N Text) e report leads h = absurd (other_text _ _ _ report (other_text_relations N) leads h)
 
 -- ---- the report that is meant
 
--- how a report stands to what is meant: it is that; or the source failed; or memory is wanting, where it is taken
-data Stands (reading : Reading) (run : Run) (want report : Report) : Type 0 where
-  is_meant : report ≡ want → Stands reading run want report
-  at_fault : report.status ≡ 8 → Rose run.read_faults_before run.read_faults_after → Stands reading run want report
-  is_wanting : TakesMemory reading → report ≡ out_of_memory → Stands reading run want report
+-- the text is the source's, where it tells its bytes
+abbrev Tells : Run → List ℕ → Type 0
+Tells run text = (source : List ℕ) → run.source_before.left ≡ Some source → text ≡ source
 
--- a text that was read to its end is the source's
-ended : (text source : List ℕ) (left left' : Option (List ℕ)) → left ≡ Some source → Consumes left left' text → IsAtEnd left' → text ≡ source
-ended text source None left' e c a = cc
-ended text source (Some xs) None e c a = absurd c
-ended text source (Some xs) (Some ys) e c a = let s : xs ≡ source = cc in sym (append-nil text) ∙ ap (λ l. text ++ l) (sym a) ∙ sym c ∙ s
+-- how a report stands to what is meant: it is that, with a text and some replies; or the source failed; or memory is wanting, where it is taken
+data Stands (reading : Reading) (run : Run) (whole : List ℕ → List Reply → Report) (good : List ℕ → List Reply → Type 0) (report : Report) : Type 0 where
+  is_meant : (text : List ℕ) → Tells run text → (replies : List Reply) → report ≡ whole text replies → (report.status ≡ 0 → good text replies) → Stands reading run whole good report
+  at_fault : report.status ≡ 8 → Rose run.source_before.faults run.source_after.faults → Stands reading run whole good report
+  is_wanting : TakesMemory reading → report ≡ out_of_memory → Stands reading run whole good report
 
--- one that was read in part is no longer than the source's
-no_longer : (text source : List ℕ) (left left' : Option (List ℕ)) → left ≡ Some source → Consumes left left' text → length text ≤ length source
-no_longer text source None left' e c = cc
-no_longer text source (Some xs) None e c = absurd c
-no_longer text source (Some xs) (Some ys) e c =
-    let s : xs ≡ source = cc in
-    let l : length source ≡ length (text ++ ys) = ap length (sym s ∙ c) in
+-- the source's bytes where it tells them, else those that were read
+abbrev source_or : Option (List ℕ) → List ℕ → List ℕ
+source_or None text = text
+source_or (Some source) text = source
+
+told_source : (left : Option (List ℕ)) (text source : List ℕ) → left ≡ Some source → source_or left text ≡ source
+told_source None text source e = cc
+told_source (Some xs) text source e = cc
+
+-- they are those that were read, where the source was read to its end
+ended : (text : List ℕ) (left left' : Option (List ℕ)) → Consumes left left' text → IsAtEnd left' → source_or left text ≡ text
+ended text None left' c a = refl
+ended text (Some xs) None c a = absurd c
+ended text (Some xs) (Some ys) c a = c ∙ ap (λ l. text ++ l) a ∙ append-nil text
+
+-- and else no fewer
+no_longer : (text : List ℕ) (left left' : Option (List ℕ)) → Consumes left left' text → length text ≤ length (source_or left text)
+no_longer text None left' c = omega arith
+no_longer text (Some xs) None c = absurd c
+no_longer text (Some xs) (Some ys) c =
+    let l : length xs ≡ length (text ++ ys) = ap length c in
     omega (arith, l, Rattle.std.proofs.Common.length-append text ys)
 
 of_short : (next : Entries → Report) (text : List ℕ) → length text ≤ 1048576 → of_text next text ≡ of_reading next (grammar.reading_of text)
@@ -95,102 +118,175 @@ of_long : (next : Entries → Report) (text : List ℕ) → 1048576 < length tex
 unfolding of_text
 of_long next text h = let e : nat_le (length text) 1048576 ≡ false = grind arith in rw e refl
 
--- what a text's entries lead to, told by a report
-abbrev IsNext : (Entries → Report → Type 0) → (Entries → Report) → Type 0
-IsNext leads next = (t : Entries) (r : Report) → leads t r → (r ≡ next t) ⊎ (r ≡ out_of_memory)
+-- what the entries of a text lead to, told by a report
+abbrev IsNext : (Entries → Report → Type 0) → (List Reply → Entries → Report) → (List ℕ → List Reply → Type 0) → Type 0
+IsNext leads next good =
+    (text : List ℕ) (t : Entries) (r : Report) → grammar.reading_of text ≡ Read t → leads t r
+    → ((replies : List Reply) × (r ≡ next replies t) × (r.status ≡ 0 → good text replies)) ⊎ (r ≡ out_of_memory)
 
-text_stands : (reading : Reading) (run : Run) (leads : Entries → Report → Type 0) (next : Entries → Report) (source : List ℕ) (report : Report) → run.left_before ≡ Some source → TakesMemory reading → IsNext leads next
-    → LeadsFromText leads run.left_before run.left_after run.read_faults_before run.read_faults_after report → Stands reading run (of_text next source) report
-unfolding read_fault of_reading
-text_stands reading run leads next source report has takes is_next (failed rose e) = at_fault (status_of e) rose
-text_stands reading run leads next source report has takes is_next (wanting kept e) = is_wanting takes e
-text_stands reading run leads next source report has takes is_next (long kept text consumed len e) =
-    is_meant (e ∙ sym (of_long next source (omega (arith, len, no_longer text source run.left_before run.left_after has consumed))))
-text_stands reading run leads next source report has takes is_next (refused kept text n kind consumed whole e) =
-    let is = ended text source run.left_before run.left_after has consumed whole.ended in
-    is_meant (e ∙ sym (of_short next source (subst (λ l. length l ≤ 1048576) is whole.short) ∙ ap (λ l. of_reading next (grammar.reading_of l)) (sym is) ∙ ap (of_reading next) whole.given))
-text_stands reading run leads next source report has takes is_next (read kept text t consumed whole l) = by (is_next t report l)
-  where
-    is : text ≡ source
-    is = ended text source run.left_before run.left_after has consumed whole.ended
+module _ (reading : Reading) (run : Run) (leads : Entries → Report → Type 0) (next : List Reply → Entries → Report) (good : List ℕ → List Reply → Type 0) (takes : TakesMemory reading) (is_next : IsNext leads next good) where
+  abbrev Follows : Report → Type 0
+  Follows report = Stands reading run (λ text replies. of_text (next replies) text) good report
 
-    of : of_text next source ≡ next t
-    of = of_short next source (subst (λ l. length l ≤ 1048576) is whole.short) ∙ ap (λ l. of_reading next (grammar.reading_of l)) (sym is) ∙ ap (of_reading next) whole.given
+  -- a text that was read to its end, with what the grammar gives
+  read_whole : (text : List ℕ) (given : TextReading) → Consumes run.source_before.left run.source_after.left text → IsWhole text run.source_after.left given → (replies : List Reply)
+      → of_text (next replies) (source_or run.source_before.left text) ≡ of_reading (next replies) given
+  read_whole text given consumed whole replies =
+      let is = ended text run.source_before.left run.source_after.left consumed whole.ended in
+      of_short (next replies) (source_or run.source_before.left text) (subst (λ l. length l ≤ 1048576) (sym is) whole.short) ∙ ap (of_reading (next replies)) (ap grammar.reading_of is ∙ whole.given)
 
-    by : (report ≡ next t) ⊎ (report ≡ out_of_memory) → Stands reading run (of_text next source) report
-    by (inl e) = is_meant (e ∙ sym of)
-    by (inr e) = is_wanting takes e
+  text_stands : (report : Report) → LeadsFromText leads run.source_before run.source_after report → Follows report
+  unfolding read_fault of_reading text_too_long line_refused
+  text_stands report (failed rose e) = at_fault (status_of e) rose
+  text_stands report (wanting kept e) = is_wanting takes e
+  text_stands report (long kept text consumed len e) =
+      is_meant (source_or run.source_before.left text) (told_source run.source_before.left text) []
+      (e ∙ sym (of_long (next []) (source_or run.source_before.left text) (omega (arith, len, no_longer text run.source_before.left run.source_after.left consumed)))) (λ z. absurd (omega (arith, status_of e, z)))
+  text_stands report (refused kept text n kind consumed whole e) =
+      is_meant (source_or run.source_before.left text) (told_source run.source_before.left text) [] (e ∙ sym (read_whole text (grammar.Refused n kind) consumed whole [])) (λ z. absurd (omega (arith, status_of e, z)))
+  text_stands report (read kept text t consumed whole l) = by (is_next (source_or run.source_before.left text) t report given l)
+    where
+      given : grammar.reading_of (source_or run.source_before.left text) ≡ Read t
+      given = ap grammar.reading_of (ended text run.source_before.left run.source_after.left consumed whole.ended) ∙ whole.given
 
-bound_stands : (reading : Reading) (run : Run) (X : ℕ) (leads : Entries → Report → Type 0) (next : Entries → Report) (text : List ℕ) (report : Report)
-    → (is_bound X ≡ false) ⊎ (run.left_before ≡ Some text) → (is_bound X ≡ true → TakesMemory reading) → IsNext leads next
-    → LeadsWithBound X leads run.left_before run.left_after run.read_faults_before run.read_faults_after report → Stands reading run (cond (is_bound X) (of_text next text) (bound_refused X)) report
-bound_stands reading run X leads next text report has takes is_next (beyond out left kept e) = is_meant (e ∙ rw out refl)
-bound_stands reading run X leads next text report has takes is_next (within bounded l) = by has
-  where
-    by : (is_bound X ≡ false) ⊎ (run.left_before ≡ Some text) → Stands reading run (cond (is_bound X) (of_text next text) (bound_refused X)) report
-    by (inl out) = let clash : true ≡ false = sym bounded ∙ out in cc
-    by (inr told) = rw bounded (text_stands reading run leads next text report told (takes bounded) is_next l)
+      by : ((replies : List Reply) × (report ≡ next replies t) × (report.status ≡ 0 → good (source_or run.source_before.left text) replies)) ⊎ (report ≡ out_of_memory) → Follows report
+      by (inl m) = is_meant (source_or run.source_before.left text) (told_source run.source_before.left text) m.0 (m.1 ∙ sym (read_whole text (Read t) consumed whole m.0)) m.2
+      by (inr e) = is_wanting takes e
 
-said_next : (s : Structure) (X : ℕ) (want report : Report) → LeadsToTable s X want report → (report ≡ want) ⊎ (report ≡ out_of_memory)
-said_next s X want report leads = elim leads.said [ inl e ↦ inl e | inr e ↦ inr e.1 ]
+bound_stands : (reading : Reading) (run : Run) (X : ℕ) (leads : Entries → Report → Type 0) (next : List Reply → Entries → Report) (good : List ℕ → List Reply → Type 0) (report : Report)
+    → (is_bound X ≡ true → TakesMemory reading) → IsNext leads next good
+    → LeadsWithBound X leads run.source_before run.source_after report
+    → Stands reading run (λ text replies. cond (is_bound X) (of_text (next replies) text) (bound_refused X)) good report
+bound_stands reading run X leads next good report takes is_next (beyond out kept e) =
+    is_meant (source_or run.source_before.left []) (told_source run.source_before.left []) [] (e ∙ rw out refl) (λ z. absurd (omega (arith, status_of e, z)))
+bound_stands reading run X leads next good report takes is_next (within bounded l) = rw bounded (text_stands reading run leads next good (takes bounded) is_next report l)
 
-stands_by : (run : Run) (text : List ℕ) (r : Reading) → (AsksForNoText r) ⊎ (run.left_before ≡ Some text) → (report : Report) → Leads r run report → Stands r run (meant r text) report
-unfolding meant closed_table probed_table checked_relations
-stands_by run text (Refused place) has report leads = is_meant leads
-stands_by run text (Table (Named family) X) has report leads = elim leads.said [ inl e ↦ is_meant e | inr e ↦ is_wanting e.0 e.1 ]
-stands_by run text (Table Text X) has report leads = bound_stands (Table Text X) run X _ (closed_table X) text report has (λ b. b) (λ t r l. said_next _ X _ r l.table) leads
-stands_by run text (Probe X) has report leads = bound_stands (Probe X) run X _ (probed_table X) text report has (λ b. b) (λ t r l. said_next _ X _ r l) leads
-stands_by run text (Relations N (Named family)) has report leads = elim leads [ inl e ↦ is_meant e | inr e ↦ is_wanting tt e ]
-stands_by run text (Relations N Text) has report leads = by has
-  where
-    by : ⊥ ⊎ (run.left_before ≡ Some text) → Stands (Relations N Text) run (meant (Relations N Text) text) report
-    by (inl none) = absurd none
-    by (inr told) = text_stands (Relations N Text) run _ (checked_relations N) text report told tt (λ t r l. l) leads
+said_next : (s : Structure) (X : ℕ) (want report : Report) → LeadsToTable s X want report → ((replies : List Reply) × (report ≡ want) × (report.status ≡ 0 → Unit {0})) ⊎ (report ≡ out_of_memory)
+said_next s X want report leads = elim leads.said [ inl e ↦ inl ([], e, λ z. tt) | inr e ↦ inr e.1 ]
+
+-- the entries of a text are told by its reading
+same_entries : (text : List ℕ) (t t' : Entries) → grammar.reading_of text ≡ Read t → grammar.reading_of text ≡ Read t' → t ≡ t'
+same_entries text t t' e e' = cc
+
+said_session : (t : Entries) (text : List ℕ) (X workers : ℕ) (lines : List Line) (whole : List Reply → Report) (report : Report) → grammar.reading_of text ≡ Read t → LeadsToSession (text_structure t) X workers lines whole report
+    → ((replies : List Reply) × (report ≡ whole replies) × (report.status ≡ 0 → (t' : Entries) → grammar.reading_of text ≡ Read t' → Admitted (session_of (text_structure t') X workers) X lines replies)) ⊎ (report ≡ out_of_memory)
+said_session t text X workers lines whole report given leads =
+    elim leads.said [ inl e ↦ inl (leads.replies, e, λ z t' e'. subst (λ u. Admitted (session_of (text_structure u) X workers) X lines leads.replies) (same_entries text t t' given e') (leads.admitted z)) | inr e ↦ inr e.1 ]
+
+-- how a report stands that a reading leads to
+abbrev Stood : Run → Reading → Report → Type 0
+Stood run reading report = Stands reading run (meant reading) (MayReply reading) report
+
+-- one of a job that reads no text
+without_text : (run : Run) (reading : Reading) (report : Report) (replies : List Reply) → report ≡ meant reading (source_or run.source_before.left []) replies → (report.status ≡ 0 → MayReply reading (source_or run.source_before.left []) replies) → Stood run reading report
+without_text run reading report replies e good = is_meant (source_or run.source_before.left []) (told_source run.source_before.left []) replies e good
+
+stands_by : (run : Run) (r : Reading) (report : Report) → Leads r run report → Stood run r report
+unfolding meant MayReply closed_table closed_session probed_table
+stands_by run (Refused place) report leads = without_text run (Refused place) report [] leads (λ z. tt)
+stands_by run (Table (Named family) X workers) report leads = elim leads.said [ inl e ↦ without_text run (Table (Named family) X workers) report [] e (λ z. tt) | inr e ↦ is_wanting e.0 e.1 ]
+stands_by run (Table Text X workers) report leads = bound_stands (Table Text X workers) run X _ (λ replies. closed_table X) (λ text replies. Unit {0}) report (λ b. b) (λ text t r given l. said_next _ X _ r l.table) leads
+stands_by run (Session (Named family) X workers lines) report leads =
+    elim leads.said [ inl e ↦ without_text run (Session (Named family) X workers lines) report leads.replies e leads.admitted | inr e ↦ is_wanting e.0 e.1 ]
+stands_by run (Session Text X workers lines) report leads =
+    bound_stands (Session Text X workers lines) run X _ (closed_session X) (MayReply (Session Text X workers lines)) report (λ b. b) (λ text t r given l. said_session t text X workers lines _ r given l.session) leads
+stands_by run (Probe X workers) report leads = bound_stands (Probe X workers) run X _ (λ replies. probed_table X) (λ text replies. Unit {0}) report (λ b. b) (λ text t r given l. said_next _ X _ r l.table) leads
+stands_by run (Relations N (Named family)) report leads = elim leads.checked.said [ inl e ↦ without_text run (Relations N (Named family)) report [] e (λ z. tt) | inr e ↦ is_wanting tt e ]
+stands_by run (Relations N Text) report leads =
+    text_stands (Relations N Text) run _ (λ replies. text_relations N) (λ text replies. Unit {0}) tt (λ text t r given l. elim l.said [ inl e ↦ inl ([], e, λ z. tt) | inr e ↦ inr e ]) report leads
 
 -- memory is wanting only where it is taken
-bound_takes : (X : ℕ) (next : Entries → Report → Type 0) (left left' : Option (List ℕ)) (faults faults' : ℕ) (report : Report) → LeadsWithBound X next left left' faults faults' report
+bound_takes : (X : ℕ) (next : Entries → Report → Type 0) (old new : Giving) (report : Report) → LeadsWithBound X next old new report
     → report.status ≡ 10 → is_bound X ≡ true
-bound_takes X next left left' faults faults' report (beyond out left_same kept e') e = absurd (omega (arith, status_of e', e))
-bound_takes X next left left' faults faults' report (within bounded l) e = bounded
+bound_takes X next old new report (beyond out same e') e = absurd (omega (arith, status_of e', e))
+bound_takes X next old new report (within bounded l) e = bounded
 
 wanting_takes : (run : Run) (r : Reading) (report : Report) → Leads r run report → report.status ≡ 10 → TakesMemory r
 wanting_takes run (Refused place) report leads e = absurd (omega (arith, status_of leads, e))
-wanting_takes run (Table (Named family) X) report leads e = by leads.said
+wanting_takes run (Table (Named family) X workers) report leads e = by leads.said
   where
     by : (report ≡ table_report (structure_of family) X) ⊎ ((is_bound X ≡ true) × (report ≡ out_of_memory)) → is_bound X ≡ true
-    by (inl t) = absurd ((other_table (structure_of family) X).2 (sym (status_of t) ∙ e))
+    by (inl t) = absurd (plain_ample (plain_table (structure_of family) X) (sym (status_of t) ∙ e))
     by (inr w) = w.0
-wanting_takes run (Table Text X) report leads e = bound_takes X _ _ _ _ _ report leads e
-wanting_takes run (Probe X) report leads e = bound_takes X _ _ _ _ _ report leads e
+wanting_takes run (Table Text X workers) report leads e = bound_takes X _ _ _ report leads e
+wanting_takes run (Session (Named family) X workers lines) report leads e = by leads.said
+  where
+    by : (report ≡ session_report (structure_of family) X leads.replies) ⊎ ((is_bound X ≡ true) × (report ≡ out_of_memory)) → is_bound X ≡ true
+    by (inl t) = absurd (plain_ample (plain_session (structure_of family) X leads.replies) (sym (status_of t) ∙ e))
+    by (inr w) = w.0
+wanting_takes run (Session Text X workers lines) report leads e = bound_takes X _ _ _ report leads e
+wanting_takes run (Probe X workers) report leads e = bound_takes X _ _ _ report leads e
 wanting_takes run (Relations N kind) report leads e = tt
 
-module _ (run : Run) (answers : Answers run) where
-  in_reading : (text : List ℕ) → HasText run text → run.status ≢ 9 → (report : Report) × Gives run report × Stands (reading_of run.words) run (meant (reading_of run.words) text) report
-  in_reading text has n = let t = told_by run answers n in (t.report, t.gives, stands_by run text (reading_of run.words) has t.report t.leads)
+-- ---- the range of the status
 
-  job_cause : (text : List ℕ) → HasText run text → run.status ≢ 8 → run.status ≢ 9 → run.status ≢ 10 → Gives run (meant (reading_of run.words) text)
-  job_cause text has eight nine ten = let t = in_reading text has nine in by t.0 t.1 t.2
+-- a report's status is one of those that a run answers
+abbrev IsInRange : ℕ → Type 0
+IsInRange n = (n ≡ 0) ⊎ ((2 ≤ n) × (n ≤ 10))
+
+plain_range : {r : Report} → IsPlain r → IsInRange r.status
+plain_range {r} plain = by plain.is
+  where
+    by : (r.status ≡ 0) ⊎ ((3 ≤ r.status) × (r.status ≤ 7)) → IsInRange r.status
+    by (inl e) = inl e
+    by (inr h) = inr (omega (arith, h.0), omega (arith, h.1))
+
+meant_range : (r : Reading) (text : List ℕ) (replies : List Reply) → IsInRange (meant r text replies).status
+unfolding meant closed_table closed_session probed_table
+meant_range (Refused place) text replies = inr (omega arith, omega arith)
+meant_range (Table (Named family) X workers) text replies = plain_range (plain_table (structure_of family) X)
+meant_range (Table Text X workers) text replies = plain_range (plain_bound X _ (plain_text (closed_table X) (λ t. plain_of t (table_report (text_structure t) X) (plain_table (text_structure t) X)) text))
+meant_range (Session (Named family) X workers lines) text replies = plain_range (plain_session (structure_of family) X replies)
+meant_range (Session Text X workers lines) text replies =
+    plain_range (plain_bound X _ (plain_text (closed_session X replies) (λ t. plain_of t (session_report (text_structure t) X replies) (plain_session (text_structure t) X replies)) text))
+meant_range (Probe X workers) text replies = plain_range (plain_bound X _ (plain_text (probed_table X) (λ t. plain_table (text_structure t) X) text))
+meant_range (Relations N (Named family)) text replies = plain_range (plain_family family N)
+meant_range (Relations N Text) text replies = plain_range (plain_text (text_relations N) (plain_checked N) text)
+
+stood_range : (run : Run) (r : Reading) (report : Report) → Stood run r report → IsInRange report.status
+stood_range run r report (is_meant text told replies e good) = subst IsInRange (sym (status_of e)) (meant_range r text replies)
+stood_range run r report (at_fault e rose) = inr (omega (arith, e), omega (arith, e))
+stood_range run r report (is_wanting takes e) = inr (omega (arith, status_of e), omega (arith, status_of e))
+
+module _ (run : Run) (answers : Answers run) where
+  in_reading : run.status ≢ 9 → (report : Report) × Gives run report × Stood run (reading_of run.words) report
+  in_reading n = let t = told_by run answers n in (t.report, t.gives, stands_by run (reading_of run.words) t.report t.leads)
+
+  given : (report : Report) → Gives run report → (text : List ℕ) → Tells run text → (replies : List Reply) → report ≡ meant (reading_of run.words) text replies
+      → (report.status ≡ 0 → MayReply (reading_of run.words) text replies) → GivesMeant run
+  given report gives text told replies e good = record { text = text; told = told; report = report; means = record { replies = replies; said = e; admitted = good }; gives = gives }
+
+  job_cause : run.status ≢ 8 → run.status ≢ 9 → run.status ≢ 10 → GivesMeant run
+  job_cause eight nine ten = let t = in_reading nine in by t.0 t.1 t.2
     where
-      by : (report : Report) → Gives run report → Stands (reading_of run.words) run (meant (reading_of run.words) text) report → Gives run (meant (reading_of run.words) text)
-      by report gives (is_meant e) = subst (Gives run) e gives
+      by : (report : Report) → Gives run report → Stood run (reading_of run.words) report → GivesMeant run
+      by report gives (is_meant text told replies e good) = given report gives text told replies e good
       by report gives (at_fault e rose) = absurd (eight (gives.0 ∙ e))
       by report gives (is_wanting takes e) = absurd (ten (gives.0 ∙ status_of e))
 
   memory_cause : run.status ≡ 10 → TakesMemory (reading_of run.words)
   memory_cause e = let t = told_by run answers (not_nine 10 run.status e (λ k. omega arith)) in wanting_takes run (reading_of run.words) t.report t.leads (sym t.gives.0 ∙ e)
 
-  completed : (Rose run.read_faults_before run.read_faults_after → ⊥) → (Rose run.write_faults_before run.write_faults_after → ⊥) → (text : List ℕ) → HasText run text
-      → Gives run (meant (reading_of run.words) text) ⊎ (TakesMemory (reading_of run.words) × Gives run out_of_memory)
-  completed source sink text has = let t = in_reading text has (λ e. sink (answers.write_cause e)) in by t.0 t.1 t.2
+  completed : (Rose run.source_before.faults run.source_after.faults → ⊥) → (Rose run.sink_before.faults run.sink_after.faults → ⊥) → GivesMeant run ⊎ (TakesMemory (reading_of run.words) × Gives run out_of_memory)
+  completed source sink = let t = in_reading (λ e. sink (answers.write_cause e)) in by t.0 t.1 t.2
     where
-      by : (report : Report) → Gives run report → Stands (reading_of run.words) run (meant (reading_of run.words) text) report
-          → Gives run (meant (reading_of run.words) text) ⊎ (TakesMemory (reading_of run.words) × Gives run out_of_memory)
-      by report gives (is_meant e) = inl (subst (Gives run) e gives)
+      by : (report : Report) → Gives run report → Stood run (reading_of run.words) report → GivesMeant run ⊎ (TakesMemory (reading_of run.words) × Gives run out_of_memory)
+      by report gives (is_meant text told replies e good) = inl (given report gives text told replies e good)
       by report gives (at_fault e rose) = absurd (source rose)
       by report gives (is_wanting takes e) = inr (takes, subst (Gives run) e gives)
 
-pub causes : CausesLaw
+  in_range : IsInRange run.status
+  in_range = by (run.status == 9) refl
+    where
+      by : (nine : Bool) → (run.status == 9) ≡ nine → IsInRange run.status
+      by true e = let n : run.status ≡ 9 = grind (arith, nat_tests) in inr (omega arith, omega arith)
+      by false e =
+          let n : run.status ≢ 9 = grind (arith, nat_tests) in let t = in_reading n in
+          subst IsInRange (sym (t.1).0) (stood_range run (reading_of run.words) t.0 t.2)
+
+pub causes : (run : Run) → Answers run → HasCauses run
 causes run answers = record {
+  range = in_range run answers;
   of_source = answers.read_cause;
   of_sink = answers.write_cause;
   of_memory = memory_cause run answers;
@@ -198,29 +294,62 @@ causes run answers = record {
   of_job = job_cause run answers;
 }
 
-pub complete : CompletenessLaw
-complete run answers source sink text has = completed run answers source sink text has
+pub complete : (run : Run) → Answers run → IsComplete run
+complete run answers source sink = completed run answers source sink
 
--- ---- the steps of a table
+-- ---- what is meant is one, but for a session's replies
 
-pub table_steps : TableStepsLaw
-unfolding table_report making_report cells_report plan_report checked_report whole_table
-table_steps s X = by (is_bound X) refl (making_over s X) refl (limit T X) refl (verdict_of T X) refl
+pub one_report : OneReportLaw
+unfolding meant
+one_report (Refused place) text a b plain x y = x.said ∙ sym y.said
+one_report (Table (Named family) X workers) text a b plain x y = x.said ∙ sym y.said
+one_report (Table Text X workers) text a b plain x y = x.said ∙ sym y.said
+one_report (Session kind X workers lines) text a b plain x y = absurd (plain tt)
+one_report (Probe X workers) text a b plain x y = x.said ∙ sym y.said
+one_report (Relations N (Named family)) text a b plain x y = x.said ∙ sym y.said
+one_report (Relations N Text) text a b plain x y = x.said ∙ sym y.said
+
+session_status : (s : Structure) (X : ℕ) (a b : List Reply) → (session_report s X a).status ≡ (session_report s X b).status
+unfolding session_report making_report plan_report
+session_status s X a b = by (is_bound X) (making_over s X) (limit (planned_tensors s X) X)
   where
-    T : Tensors
-    T = planned_tensors s X
+    by : (t : Bool) (o : Option ℕ) (l : Limit) → (cond t (making_report o (plan_report X l (record { status = 0; bytes = lines_text a }))) (bound_refused X)).status ≡ (cond t (making_report o (plan_report X l (record { status = 0; bytes = lines_text b }))) (bound_refused X)).status
+    by false o l = refl
+    by true (Some k) l = refl
+    by true None Within = refl
+    by true None PassesBound = refl
+    by true None (PassesCells level) = refl
+    by true None (PassesNeeds key) = refl
 
-    cells : check.Verdict → Report
-    cells v = checked_report (has_letter s) T.shape (planned T X) (full_table T X) v
+closed_status : (v : Verdict) (x y : Report) → x.status ≡ y.status → (relations_report v x).status ≡ (relations_report v y).status
+unfolding relations_report
+closed_status Closed x y e = e
+closed_status (Differs rel place left right) x y e = refl
+closed_status (Over rel place) x y e = refl
 
-    by : (b : Bool) → is_bound X ≡ b → (o : Option ℕ) → making_over s X ≡ o → (l : Limit) → limit T X ≡ l → (v : check.Verdict) → verdict_of T X ≡ v
-        → Step s X (cond b (making_report o (plan_report X l (cells v))) (bound_refused X))
-    by false e o m l f v g = steps.outside e refl
-    by true e (Some k) m l f v g = steps.unmade e k m refl
-    by true e None m Within f check.Solution g = steps.whole (record { bounded = e; made = m; within = f }) g refl
-    by true e None m Within f (check.NotValue r) g = steps.blank (record { bounded = e; made = m; within = f }) r g refl
-    by true e None m Within f (check.Overflow key i) g = steps.over (record { bounded = e; made = m; within = f }) key i g refl
-    by true e None m Within f (check.Orders key i a j b) g = steps.orders (record { bounded = e; made = m; within = f }) key i a j b g refl
-    by true e None m PassesBound f v g = steps.limited e m (λ u. let clash : PassesBound ≡ Within = sym f ∙ u in cc) refl
-    by true e None m (PassesCells level) f v g = steps.limited e m (λ u. let clash : PassesCells level ≡ Within = sym f ∙ u in cc) refl
-    by true e None m (PassesNeeds key) f v g = steps.limited e m (λ u. let clash : PassesNeeds key ≡ Within = sym f ∙ u in cc) refl
+text_status : (next next' : Entries → Report) → ((t : Entries) → (next t).status ≡ (next' t).status) → (text : List ℕ) → (of_text next text).status ≡ (of_text next' text).status
+unfolding of_text of_reading
+text_status next next' same text = by (nat_le (length text) 1048576) (grammar.reading_of text)
+  where
+    by : (short : Bool) (r : TextReading) → (cond short (of_reading next r) text_too_long).status ≡ (cond short (of_reading next' r) text_too_long).status
+    by false r = refl
+    by true (grammar.Refused n kind) = refl
+    by true (Read t) = same t
+
+meant_status : (r : Reading) (text : List ℕ) (a b : List Reply) → (meant r text a).status ≡ (meant r text b).status
+unfolding meant closed_session of_relations
+meant_status (Refused place) text a b = refl
+meant_status (Table (Named family) X workers) text a b = refl
+meant_status (Table Text X workers) text a b = refl
+meant_status (Session (Named family) X workers lines) text a b = session_status (structure_of family) X a b
+meant_status (Session Text X workers lines) text a b = by (is_bound X)
+  where
+    by : (t : Bool) → (cond t (of_text (closed_session X a) text) (bound_refused X)).status ≡ (cond t (of_text (closed_session X b) text) (bound_refused X)).status
+    by false = refl
+    by true = text_status (closed_session X a) (closed_session X b) (λ t. closed_status (verdict (looked_up t) t.dim) _ _ (session_status (text_structure t) X a b)) text
+meant_status (Probe X workers) text a b = refl
+meant_status (Relations N (Named family)) text a b = refl
+meant_status (Relations N Text) text a b = refl
+
+pub one_status : OneStatusLaw
+one_status r text a b x y = status_of x.said ∙ meant_status r text x.replies y.replies ∙ sym (status_of y.said)

@@ -1,17 +1,18 @@
 -- What a part of a run ends with: a report that its words lead to, told or cut.
-use Rattle.std.specs.Prelude.{ℕ, List, Option}
+use Rattle.std.specs.Prelude.{ℕ}
+use Rattle.airy_io.specs.Causes.{Giving, Taking}
 use Rattle.sparse_tensor.specs.Entries.{Entries}
 use Rattle.airyrun.specs.Report.{Report, Ends}
 use Rattle.airyrun.specs.Run.{LeadsFromText, LeadsWithBound}
 
 -- it ends with a report of this kind
-abbrev pub EndsBy : (Report → Type 0) → ℕ → ℕ → Option (List ℕ) → Option (List ℕ) → ℕ → Type 0
-EndsBy leads before now old new result = (report : Report) × leads report × Ends report before now old new result
+abbrev pub EndsBy : (Report → Type 0) → Taking → Taking → ℕ → Type 0
+EndsBy leads before now result = (report : Report) × leads report × Ends report before now result
 
 -- the same of a job with a text
-abbrev pub EndsOfText : (Entries → Report → Type 0) → Option (List ℕ) → Option (List ℕ) → ℕ → ℕ → ℕ → ℕ → Option (List ℕ) → Option (List ℕ) → ℕ → Type 0
-EndsOfText next left left' faults faults' before now old new result = EndsBy (LeadsFromText next left left' faults faults') before now old new result
+abbrev pub EndsOfText : (Entries → Report → Type 0) → Giving → Giving → Taking → Taking → ℕ → Type 0
+EndsOfText next old new before now result = EndsBy (LeadsFromText next old new) before now result
 
 -- the same of a job with a bound and a text
-abbrev pub EndsWithBound : ℕ → (Entries → Report → Type 0) → Option (List ℕ) → Option (List ℕ) → ℕ → ℕ → ℕ → ℕ → Option (List ℕ) → Option (List ℕ) → ℕ → Type 0
-EndsWithBound X next left left' faults faults' before now old new result = EndsBy (LeadsWithBound X next left left' faults faults') before now old new result
+abbrev pub EndsWithBound : ℕ → (Entries → Report → Type 0) → Giving → Giving → Taking → Taking → ℕ → Type 0
+EndsWithBound X next old new before now result = EndsBy (LeadsWithBound X next old new) before now result

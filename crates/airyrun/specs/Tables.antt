@@ -17,15 +17,18 @@ use Rattle.sparse_tensor.specs.Entries.{Entries, looked_up}
 use Rattle.named_families.specs.Steps.{wp_refusal}
 use Rattle.named_families.specs.declared.petersson.MakeErr.{MakeErr}
 use Rattle.named_families.specs.declared.petersson.MakeErr.TheVariants as make
+use Rattle.amp_plan.specs.Plans.{Planning}
+use Rattle.amp_plan.specs.Plans as plans
 use Rattle.amp_plan.specs.Limits.{Limit, Within, PassesBound, PassesCells, PassesNeeds, limit}
-use Rattle.amp_plan.specs.declared.plan.PlanCause.{PlanCause}
-use Rattle.amp_plan.specs.declared.plan.PlanCause.TheVariants as cause
+use Rattle.amp_plan.specs.declared.PlanCause.{PlanCause}
+use Rattle.amp_plan.specs.declared.PlanCause.TheVariants as cause
 use Rattle.amp_terms.specs.declared.Outcome.{Outcome}
 use Rattle.amp_terms.specs.Outcomes.{outcomes}
 use Rattle.amp_terms.specs.Tables.{full_table, value_of_cell}
 use Rattle.amp_terms.specs.Text.{value_text}
 use Rattle.frac128.specs.Fraction.{fraction_text}
 use Rattle.series_law.specs.Check.{Verdict, Solution, NotValue, Overflow, Orders, check}
+use Rattle.airy_io.specs.Causes.{Taking}
 use Rattle.airyrun.specs.Report.{Report, Ends, refusal, bound_refused, out_of_memory}
 
 -- the line of a key with its Value: `KEY VALUE`
@@ -45,15 +48,23 @@ pivot_text key i = key_text key ++ codes " first " ++ decimal i
 
 -- two of its pivots with their numbers: `KEY first I gives V1, first J gives V2`
 unfoldable pub orders_text : Key → ℕ → ℚ → ℕ → ℚ → List ℕ
-orders_text key i a j b = pivot_text key i ++ codes " gives " ++ fraction_text a ++ codes ", first " ++ decimal j ++ codes " gives " ++ fraction_text b
+orders_text key i a j b =
+    pivot_text key i ++ codes " gives " ++ fraction_text a ++ codes ", first " ++ decimal j ++ codes " gives " ++ fraction_text b
+
+-- what is said where a number of a table leaves the range, and where two index orders of a key differ
+abbrev pub over_at : List ℕ → Report
+over_at which = record { status = 6; bytes = refusal (codes "over at ") which }
+
+abbrev pub orders_differ : Key → ℕ → ℚ → ℕ → ℚ → Report
+orders_differ key i a j b = record { status = 7; bytes = refusal [] (orders_text key i a j b) }
 
 -- What the check of every pivot of a table leads to: the whole table; or the first key without a Value; or the first pivot whose sum
 -- leaves the range; or the first two index orders with differing numbers.
 unfoldable pub checked_report : Bool → Shape → List Key → List (Option Outcome) → Verdict → Report
 checked_report letter shape keys cells Solution = record { status = 0; bytes = rows_text letter shape keys cells }
-checked_report letter shape keys cells (NotValue r) = record { status = 6; bytes = refusal (codes "over at ") (key_text (key_at keys r)) }
-checked_report letter shape keys cells (Overflow key i) = record { status = 6; bytes = refusal (codes "over at ") (pivot_text key i) }
-checked_report letter shape keys cells (Orders key i a j b) = record { status = 7; bytes = refusal [] (orders_text key i a j b) }
+checked_report letter shape keys cells (NotValue r) = over_at (key_text (key_at keys r))
+checked_report letter shape keys cells (Overflow key i) = over_at (pivot_text key i)
+checked_report letter shape keys cells (Orders key i a j b) = orders_differ key i a j b
 
 -- what the check finds in the table of T up to X
 unfoldable pub verdict_of : Tensors → ℕ → Verdict
@@ -112,10 +123,21 @@ making_report (Some k) next = record { status = 6; bytes = refusal (codes "over 
 -- what the table of a structure up to X writes and answers, where memory isn't wanting
 unfoldable pub table_report : Structure → ℕ → Report
 table_report s X =
-    cond (is_bound X) (making_report (making_over s X) (plan_report X (limit (planned_tensors s X) X) (cells_report (has_letter s) (planned_tensors s X) X)))
+    cond (is_bound X)
+    (making_report (making_over s X) (plan_report X (limit (planned_tensors s X) X) (cells_report (has_letter s) (planned_tensors s X) X)))
     (bound_refused X)
 
 -- ---- what the code's parts write
+
+-- the line of a rank, the lines of a table, and the report of the cells, of a plan
+abbrev pub rank_text : Planning → ℕ → Option ℚ → List ℕ
+rank_text p r v = row_text p.tensors.letter p.tensors.shape (plans.key_at p r) v
+
+abbrev pub table_text : Planning → List (Option Outcome) → List ℕ
+table_text p cells = rows_text p.tensors.letter p.tensors.shape (plans.keys_of p) cells
+
+abbrev pub plan_cells : Planning → Report
+plan_cells p = cells_report p.tensors.letter (plans.tensors_of p) p.bound
 
 -- a plan's cause
 unfoldable pub cause_report : PlanCause → Report
@@ -130,8 +152,8 @@ making_error (make.Over k) = making_report (Some k) out_of_memory
 making_error make.NoMemory = out_of_memory
 
 -- a run of the table of a structure: it ends with that report, or, at a bound within its limits, memory is wanting
-abbrev pub EndsTable : Structure → ℕ → ℕ → ℕ → Option (List ℕ) → Option (List ℕ) → ℕ → Type 0
-EndsTable s X before now old new result = Ends (table_report s X) before now old new result ⊎ (IsTrue (is_bound X) × Ends out_of_memory before now old new result)
+abbrev pub EndsTable : Structure → ℕ → Taking → Taking → ℕ → Type 0
+EndsTable s X before now result = Ends (table_report s X) before now result ⊎ (IsTrue (is_bound X) × Ends out_of_memory before now result)
 
 -- what a plan of stored tensors up to X leads to
 unfoldable pub stored_report : Entries → ℕ → Report

@@ -2,52 +2,77 @@ ghost use Rattle.std.specs.Prelude.{◌≡◌, ◌<◌, ◌≤◌, ◌+◌, ◌*
 ghost use Rattle.airy_math.specs.Tensors.{SameEntries};
 ghost use Rattle.sparse_tensor.specs.Entries.{looked_up};
 ghost use Rattle.named_families.specs.Families.{Names};
-ghost use Rattle.airyrun.specs.Asked.{IsPlaces};
+ghost use Rattle.command_words.specs.Asked.{IsPlaces};
 ghost use Rattle.airyrun.specs.Report.{Ends, EndsOrWants};
-ghost use Rattle.airyrun.specs.Closings.{family_over, family_relations, family_tensors};
-ghost use Rattle.airyrun.specs.Tables.{ArePlanned, EndsTable, is_bound, making_error, making_over, structure_of, table_report};
+ghost use Rattle.airyrun.specs.Relations.{family_over, family_tensors};
+ghost use Rattle.airyrun.specs.Ends.{EndsBy};
+ghost use Rattle.airyrun.specs.Run.{LeadsToFamilyRelations};
+ghost use Rattle.airyrun.specs.Tables.{ArePlanned, EndsTable, has_letter, is_bound, making_error, making_over, structure_of, table_report};
 
-use crate::closings::say_relations;
+use crate::bounds::is_bound;
+use crate::relations::say_relations;
 use crate::report::{refuse_bound, refuse_memory, refuse_number};
-use crate::tables::{is_bound, print_stored};
+use crate::tables::print_stored;
 use airy_io::Sink;
 use airy_math::{Family, below_dim, planned_once};
 use airy_relations::same_verdict;
-use named_families::{MakeErr, bgw, bgw_cut, wk, wk_cut, wp, wp_cut};
+use fill_crew::Gate;
+use named_families::{
+    MakeErr, bgw, bgw_closes, bgw_cut, wk, wk_closes, wk_cut, wp, wp_closes, wp_cut,
+};
 use series_law::same_tables;
 use sparse_tensor::Tensors;
 use std::alloc::Global;
+use std::thread::Threads;
 
 /// Does `table KIND X` for a named structure.
-pub(crate) fn table_of_family<W: Sink>(alloc: Global, family: Family, bound: u32, out: &mut W) -> u8
-    ensures { EndsTable (structure_of family) bound (W.faults out.old) (W.faults out.new) (W.taken out.old) (W.taken out.new) result }
+pub(crate) fn table_of_family<R: Threads + Sync, W: Sink, G: Gate + Sync>(
+    rt: &R,
+    alloc: Global,
+    family: Family,
+    bound: u32,
+    workers: u8,
+    gate: &G,
+    out: &mut W,
+) -> u8
+    requires { workers ≤ 16 }
+    ensures { EndsTable (structure_of family) bound (W.state out.old) (W.state out.new) result }
 {
     if is_bound(bound) {
-        made_table(alloc, family, bound as u8, out)
+        made_table(rt, alloc, family, bound as u8, workers, gate, out)
     } else {
         refuse_bound(out, bound)
     }
 }
 
 /// Makes the tensors of a named structure, plans, fills, checks and prints their table.
-fn made_table<W: Sink>(alloc: Global, family: Family, bound: u8, out: &mut W) -> u8
+fn made_table<R: Threads + Sync, W: Sink, G: Gate + Sync>(
+    rt: &R,
+    alloc: Global,
+    family: Family,
+    bound: u8,
+    workers: u8,
+    gate: &G,
+    out: &mut W,
+) -> u8
+    requires workers { workers ≤ 16 }
     requires within { IsTrue (is_bound bound) }
     requires some { 0 < bound }
     requires most { bound ≤ 24 }
-    ensures { EndsOrWants (table_report (structure_of family) bound) (W.faults out.old) (W.faults out.new) (W.taken out.old) (W.taken out.new) result }
+    ensures { EndsOrWants (table_report (structure_of family) bound) (W.state out.old) (W.state out.new) result }
 {
     planned_once();
     below_dim();
     same_tables();
     match tensors_of(alloc, family, bound) {
-        Ok(tensors) => print_stored(alloc, tensors, bound, out),
+        Ok(tensors) => print_stored(rt, alloc, tensors, bound, workers, gate, out),
         Err(refusal) => refuse_making(out, refusal),
     }
 }
 
 /// The tensors of a named structure that its table up to the bound needs.
 #[tactic(auto, unfolding(crate::specs::Tables::making_over, crate::specs::Tables::structure_of, crate::specs::Tables::has_letter, airy_math::specs::Jobs::planned_tensors, named_families::specs::Families::Names))]
-fn tensors_of(alloc: Global, family: Family, bound: u8) -> Result<Tensors, MakeErr>
+pub(crate) fn tensors_of(alloc: Global, family: Family, bound: u8) -> Result<Tensors, MakeErr>
     requires some { 0 < bound }
     requires most { bound ≤ 24 }
     ensures planned { IfOk result (λ t. ArePlanned t (structure_of family) bound) }
@@ -69,9 +94,13 @@ pub(crate) fn relations_of_family<W: Sink>(
     out: &mut W,
 ) -> u8
     requires { IsPlaces places }
-    ensures { EndsOrWants (family_relations family places) (W.faults out.old) (W.faults out.new) (W.taken out.old) (W.taken out.new) result }
+    ensures { EndsBy (LeadsToFamilyRelations family places) (W.state out.old) (W.state out.new) result }
 {
     same_verdict();
+    below_dim();
+    wk_closes();
+    bgw_closes();
+    wp_closes();
     match tensors_below(alloc, places, family) {
         Ok(tensors) => say_relations(&tensors, places, out),
         Err(refusal) => refuse_making(out, refusal),
@@ -80,10 +109,11 @@ pub(crate) fn relations_of_family<W: Sink>(
 
 /// The tensors of a named structure with all indices that the relations in the places below N read: up to 2N, and for wp with the
 /// exponents up to 2N + 1.
-#[tactic(auto, unfolding(crate::specs::Closings::family_tensors, crate::specs::Closings::family_over, named_families::specs::Families::Names))]
+#[tactic(auto, unfolding(crate::specs::Relations::family_tensors, crate::specs::Relations::family_over, crate::specs::Tables::structure_of, crate::specs::Tables::has_letter, named_families::specs::Families::Names))]
 fn tensors_below(alloc: Global, places: u8, family: Family) -> Result<Tensors, MakeErr>
     requires { IsPlaces places }
     ensures entries { IfOk result (λ t. SameEntries (looked_up t) (family_tensors family places)) }
+    ensures letter { IfOk result (λ t. t.letter ≡ has_letter (structure_of family)) }
     ensures made { OnOk result (family_over family places ≡ None) }
     ensures over { IfErr result (λ e. Names e (family_over family places)) }
 {
@@ -97,8 +127,8 @@ fn tensors_below(alloc: Global, places: u8, family: Family) -> Result<Tensors, M
 
 /// Says why the tensors of a named structure aren't made.
 #[tactic(auto, unfolding(crate::specs::Tables::making_error, crate::specs::Tables::making_report))]
-fn refuse_making<W: Sink>(out: &mut W, refusal: MakeErr) -> u8
-    ensures { Ends (making_error refusal) (W.faults out.old) (W.faults out.new) (W.taken out.old) (W.taken out.new) result }
+pub(crate) fn refuse_making<W: Sink>(out: &mut W, refusal: MakeErr) -> u8
+    ensures { Ends (making_error refusal) (W.state out.old) (W.state out.new) result }
 {
     match refusal {
         MakeErr::Over { k } => refuse_number(out, 6, b"over in c ", k as u32),

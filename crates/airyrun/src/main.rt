@@ -1,30 +1,46 @@
 //! The program: tables of the amplitudes of quantum Airy structures.
 #![tactic(auto)]
 
-mod closings;
+ghost use Rattle.std.specs.Prelude.{◌≡◌, ◌⊎◌, IfErr};
+
+mod bounds;
 mod families;
 #[cfg(test)]
 mod family_tests;
-mod gate;
+#[cfg(test)]
+mod fault_tests;
+#[cfg(test)]
+mod gate_tests;
 mod laws;
-mod orders;
+#[cfg(test)]
+mod number_tests;
+mod pivots;
+mod relations;
 mod report;
+#[cfg(test)]
+mod row_tests;
+#[cfg(test)]
+mod serve_tests;
+#[cfg(test)]
+mod session_tests;
 mod tables;
+mod talk;
 #[cfg(test)]
 mod tests;
 mod texts;
 mod top;
-mod words;
+#[cfg(test)]
+mod word_tests;
 
 use airy_io::{StdSink, StdSource};
-pub use gate::{Gate, OpenGate, StopAfter};
-pub use laws::{completeness, exact_causes, table_steps};
+pub use fill_crew::{Gate, OpenGate, StopAfter};
+pub use laws::{meant_is_one, same_replies, session_shown, table_steps};
 use std::process::ExitCode;
 use std::{env, io};
-use top::run;
+pub use top::{run, serve};
 
-/// Hands the words behind the program's name to `run`, with standard input and output and the open gate, and ends with
-/// its status. Where the system doesn't give the words it ends with 1, and where memory for them is wanting with 10.
+/// Hands the words behind the program's name to `serve`, with standard input and output, and ends with its status. Where
+/// the system doesn't give the words it ends with 1, and where memory for them is wanting with 10.
 fn main(rt: HostRuntime) -> ExitCode {
     let words = match words_given(&rt) {
         Ok(words) => words,
@@ -38,12 +54,13 @@ fn main(rt: HostRuntime) -> ExitCode {
         inner: rt.stdout(),
         faults: 0,
     };
-    let status = run(&rt, rt.alloc(), &words, &mut source, &mut sink, &OpenGate);
-    ExitCode::from(status)
+    serve(&rt, rt.alloc(), &words, &mut source, &mut sink)
 }
 
 /// The words behind the program's name, or the status to end with.
-fn words_given(rt: &HostRuntime) -> Result<Vec<String>, u8> {
+fn words_given(rt: &HostRuntime) -> Result<Vec<String>, u8>
+    ensures status { IfErr result (λ s. (s ≡ 1) ⊎ (s ≡ 10)) }
+{
     let mut args = match env::args(rt) {
         Ok(args) => args,
         Err(error) if error.kind() == io::ErrorKind::OutOfMemory => return Err(10),

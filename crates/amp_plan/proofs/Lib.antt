@@ -5,6 +5,7 @@ pub mod LevelLemmas
 pub mod SearchLemmas
 pub mod LimitLemmas
 pub mod PlanLemmas
+pub mod PlaceLemmas
 pub mod RowLemmas
 pub mod ListWalkLemmas
 pub mod RankWalkLemmas

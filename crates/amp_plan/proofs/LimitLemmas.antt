@@ -45,13 +45,13 @@ pub limit-bound : (p : Planning) → (leb 1 p.bound && leb p.bound 24) ≡ false
 unfolding limit_of limit
 limit-bound p e = rw e refl
 
-in_range : (X : ℕ) → 0 < X → X ≤ 24 → (leb 1 X && leb X 24) ≡ true
-in_range X p q = grind arith
+range_fact : (X : ℕ) → 0 < X → X ≤ 24 → (leb 1 X && leb X 24) ≡ true
+range_fact X p q = grind arith
 
 limit-small : (p : Planning) → 0 < p.bound → p.bound ≤ 24 → length (keys_of p) ≤ 200000 → limit_of p ≡ past (keys_of p) (first_past 4000000 (need_counts (tensors_of p) p.bound))
 unfolding limit_of limit keys_of
 limit-small p h q few =
-    let e = in_range p.bound h q in
+    let e = range_fact p.bound h q in
     let f : leb (length (planned (tensors_of p) p.bound)) 200000 ≡ true = grind arith in
     rw (e, f) refl
 
@@ -65,13 +65,13 @@ limit-needs p r h q few e = limit-small p h q few ∙ ap (past (keys_of p)) e
 
 pub limit-cells : (p : Planning) (e : ℕ) → 0 < p.bound → p.bound ≤ 24 → 200000 < length (keys_of p) → level_at (keys_of p) 200000 ≡ e → limit_of p ≡ PassesCells e
 unfolding limit_of limit keys_of
-limit-cells p e h q many l = let r = in_range p.bound h q in let f : leb (length (planned (tensors_of p) p.bound)) 200000 ≡ false = grind arith in rw (r, f) (ap PassesCells l)
+limit-cells p e h q many l = let r = range_fact p.bound h q in let f : leb (length (planned (tensors_of p) p.bound)) 200000 ≡ false = grind arith in rw (r, f) (ap PassesCells l)
 
 pub limit-memory : (p : Planning) → 0 < p.bound → p.bound ≤ 24 → limit_of p ≡ PassesBound → ⊥
 unfolding limit_of limit past
 limit-memory p h q e =
     by (leb (length (planned (tensors_of p) p.bound)) 200000) (first_past 4000000 (need_counts (tensors_of p) p.bound))
-    (sym (ap (λ b. cond b (cond (leb (length (planned (tensors_of p) p.bound)) 200000) (past (planned (tensors_of p) p.bound) (first_past 4000000 (need_counts (tensors_of p) p.bound))) (PassesCells (level_at (planned (tensors_of p) p.bound) 200000))) PassesBound) (in_range p.bound h q)) ∙ e)
+    (sym (ap (λ b. cond b (cond (leb (length (planned (tensors_of p) p.bound)) 200000) (past (planned (tensors_of p) p.bound) (first_past 4000000 (need_counts (tensors_of p) p.bound))) (PassesCells (level_at (planned (tensors_of p) p.bound) 200000))) PassesBound) (range_fact p.bound h q)) ∙ e)
   where
     by : (t : Bool) (o : Option ℕ) → cond t (past (planned (tensors_of p) p.bound) o) (PassesCells (level_at (planned (tensors_of p) p.bound) 200000)) ≡ PassesBound → ⊥
     by true None e = cc

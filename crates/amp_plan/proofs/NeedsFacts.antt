@@ -82,9 +82,9 @@ lower_rank T X r q a h k e = by (cases_order q r)
     by (inr (inl l)) = l
     by (inr (inr l)) = absurd (omega (arith, e, before_level (get_or (planned T X) r no_key) (get_or (planned T X) q no_key) (a.all no_key r q l h)))
 
-pub are_needs : (T : Tensors) (X : ℕ) → ListsPlanned T X → Ascends T X → ((r : ℕ) → r < length (planned T X) → NeedsComeFirst T X (key_at (planned T X) r)) → AreNeeds T X
+pub needs_fact : (T : Tensors) (X : ℕ) → ListsPlanned T X → Ascends T X → ((r : ℕ) → r < length (planned T X) → NeedsComeFirst T X (key_at (planned T X) r)) → AreNeeds T X
 unfolding needed resting needs_rank named_ranks key_at below
-are_needs T X l a f = record {
+needs_fact T X l a f = record {
   lower = λ r q h t. lower r q h (numbered (λ key. place_of key (planned T X)) (needs T (key_at (planned T X) r)) q (named r q t)) ((keep-row (needs_rank T X r) (length (planned T X))).small q t);
   all = λ r k h s. has-below (needs_rank T X r) (length (planned T X)) (place_of k (planned T X)) (l.all k ((f r h).needs k s).planned) ∙ has-map (λ key. place_of key (planned T X)) k (needs T (key_at (planned T X) r)) s;
   only = λ r q h t. only r q h (numbered (λ key. place_of key (planned T X)) (needs T (key_at (planned T X) r)) q (named r q t));

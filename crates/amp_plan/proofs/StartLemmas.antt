@@ -12,7 +12,7 @@ use Rattle.amp_plan.specs.Walk.{HasRoom, IsPartOf, genus_part}
 use Rattle.amp_plan.specs.Measures.{IsMeasured, gain, loss}
 use Rattle.amp_plan.specs.Shares.{no_split, choice_part, IsShare, FitsShare, IsChosen}
 use Rattle.amp_plan.specs.declared.share.Share.{Share}
-use Rattle.amp_plan.specs.declared.walk.Pair.{Pair}
+use Rattle.amp_plan.specs.declared.pair.Pair.{Pair}
 use Rattle.amp_plan.proofs.SplitWalkLemmas.{part_of}
 use Rattle.amp_plan.proofs.ChoiceLemmas.{all-both, choices-all, fits-all}
 use Rattle.amp_plan.proofs.MeasureLemmas.{measured-none}

@@ -12,8 +12,8 @@ use Rattle.airy_math.specs.Ranks as ranks
 use Rattle.airy_math.specs.Tensors as math
 use Rattle.amp_plan.specs.Plans.{Planning, tensors_of}
 use Rattle.amp_plan.specs.Needs.{need_counts, first_past}
-use Rattle.amp_plan.specs.declared.plan.PlanCause.{PlanCause}
-use Rattle.amp_plan.specs.declared.plan.PlanCause.TheVariants as cause
+use Rattle.amp_plan.specs.declared.cause.PlanCause.{PlanCause}
+use Rattle.amp_plan.specs.declared.cause.PlanCause.TheVariants as cause
 
 pub data Limit : Type 0 where
   -- nothing

@@ -6,11 +6,11 @@ ghost use Rattle.amp_plan.specs.Measures.{IsMeasured, IsCandidate};
 ghost use Rattle.amp_plan.specs.Rests.{IsRest};
 ghost use Rattle.amp_plan.specs.Walk.{HasRoom, live_rank};
 
-use crate::Place;
 use crate::measure::{Measure, covers_excess, per_n};
+use crate::pair::Pair;
+use crate::place::Place;
 use crate::ranking::Ranking;
 use crate::rest::Rest;
-use crate::walk::Pair;
 use airy_index::Key;
 use arrayvec::ArrayVec;
 use key_index::{KeyIndex, genus_code};
@@ -85,7 +85,7 @@ pub(crate) fn rank_beside(
         return rank_with(ranking, genus, list, x);
     }
     ranking.is_small();
-    ranking.tensors().are_sound();
+    ranking.tensors().soundness_fact();
     let per_n = per_n(ranking.tensors().shape());
     let indices = Measure::of(index, per_n, x).plus(*measure);
     find_live(ranking, index, genus, indices)
@@ -106,7 +106,7 @@ pub(crate) fn rank_joined(ranking: &Ranking, genus: u8, rest: &Rest, pair: &Pair
         let with_b = with_index(rest.list.as_slice(), pair.b);
         return rank_with(ranking, genus - 1, with_b.as_slice(), pair.a);
     }
-    ranking.tensors().are_sound();
+    ranking.tensors().soundness_fact();
     let per_n = per_n(ranking.tensors().shape());
     let with_b = Measure::of(index, per_n, pair.b).plus(rest.whole);
     let indices = Measure::of(index, per_n, pair.a).plus(with_b);

@@ -2,7 +2,7 @@ ghost use Rattle.std.specs.Prelude.{◌≡◌, IfOk, IfErr};
 ghost use Rattle.amp_plan.specs.Kept.{IsGraph, AreDependents};
 ghost use Rattle.amp_plan.specs.Limits.{Tells};
 
-use crate::PlanCause;
+use crate::cause::PlanCause;
 use crate::marker::Marker;
 use crate::ranking::Ranking;
 use crate::rows::{Row, empty_rows, push_at, turn};

@@ -12,7 +12,7 @@ use sparse_tensor::Tensors;
 pub(crate) fn letter_at(tensors: &Tensors, key: &Key) -> u16
     ensures { result ≡ letter_of tensors.now.shape key.now }
 {
-    tensors.are_sound();
+    tensors.soundness_fact();
     let Shape::AtMost(law) = tensors.shape() else {
         return 0;
     };

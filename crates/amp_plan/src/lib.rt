@@ -1,12 +1,14 @@
 //! The plan of a table: the keys that it has, in order, and their ranks.
 #![tactic(auto)]
 
+mod cause;
 mod finding;
 mod graph;
 mod letter;
 mod listing;
 mod marker;
 mod measure;
+mod pair;
 mod place;
 mod plan;
 mod ranking;
@@ -14,12 +16,16 @@ mod rest;
 mod rows;
 mod search;
 mod share;
+mod terms;
+mod visitor;
 mod walk;
 mod window;
 
+pub use cause::{PlanCause, PlanErr};
 pub use place::Place;
-pub use plan::{Plan, PlanCause, PlanErr};
-pub use walk::{TermVisitor, walk_terms};
+pub use plan::Plan;
+pub use terms::walk_terms;
+pub use visitor::TermVisitor;
 
 #[cfg(test)]
 mod tests;

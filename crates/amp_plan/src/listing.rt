@@ -113,7 +113,7 @@ fn add_genus(keys: &mut Vec<Key>, tensors: &Tensors, level: u8, genus: u8) -> Re
     ensures few { OnOk result (length keys.new.items ≤ 200000) }
     ensures full { IsErrOf result Stop.Full → 200000 < length keys.old.items + length (keys_at (looked_up tensors.now) level genus) }
 {
-    tensors.are_sound();
+    tensors.soundness_fact();
     let places = level + 2 - 2 * genus;
     if places == 0 {
         return Ok(());

@@ -5,7 +5,8 @@ ghost use Rattle.amp_plan.specs.Ranked.{Alone, Once, Joined, Twice};
 ghost use Rattle.amp_plan.specs.Marks.{marked, AreNamed};
 
 use crate::ranking::Ranking;
-use crate::walk::{TermVisitor, walk_ranked};
+use crate::visitor::TermVisitor;
+use crate::walk::walk_ranked;
 use frac128::Frac;
 use std::alloc::{AllocError, Global};
 use std::marker::Model;

@@ -5,33 +5,14 @@ ghost use Rattle.amp_plan.specs.Places.{place_in, letter_power};
 ghost use Rattle.amp_plan.specs.Needs.{AreNeeds, needs_at, dependents_at, edges_of};
 ghost use Rattle.amp_plan.specs.Limits.{limit_of, Within, Tells};
 
-use crate::Place;
+use crate::cause::{PlanCause, PlanErr};
 use crate::graph::Graph;
+use crate::place::Place;
 use crate::ranking::Ranking;
 use airy_index::Key;
 use sparse_tensor::Tensors;
 use std::alloc::Global;
 use std::marker::Model;
-
-/// Why no plan is made.
-#[derive(Drop)]
-pub enum PlanCause {
-    /// The bound is 0 or above 24.
-    Bound { got: u8 },
-    /// More than 200,000 keys are planned: the Euler number of the 200,001st.
-    Cells { level: u8 },
-    /// The needs, added up in plan order, pass 4,000,000: the first key at which they do.
-    Edges { key: Key },
-    /// Want of memory.
-    NoMemory,
-}
-
-/// A refused plan hands its tensors back.
-#[derive(Drop)]
-pub struct PlanErr {
-    pub cause: PlanCause,
-    pub tensors: Tensors,
-}
 
 /// The planned keys of tensors up to a bound on the Euler number, with their ranks, and what each needs.
 #[derive(Drop)]
@@ -154,7 +135,7 @@ impl Plan {
     }
 
     /// A plan is within its limits: the fact, for proofs of callers.
-    pub fn is_within(&self)
+    pub fn limits_fact(&self)
         ensures within { limit_of self.now ≡ Within }
         ensures few { length (keys_of self.now) ≤ 200000 }
     {
@@ -163,7 +144,7 @@ impl Plan {
     }
 
     /// A plan lists the planned keys and nothing else, each once: the fact, for proofs of callers.
-    pub fn lists_planned(&self)
+    pub fn planned_fact(&self)
         ensures { ListsPlanned (tensors_of self.now) self.now.bound }
     {
         airy_math::planned_once();
@@ -171,7 +152,7 @@ impl Plan {
 
     /// The needs of a plan are the ranks that its keys' terms name at their least indices, each below its key's rank, and
     /// the dependents are the converse: the fact, for proofs of callers.
-    pub fn are_needs(&self)
+    pub fn needs_fact(&self)
         ensures { AreNeeds (tensors_of self.now) self.now.bound }
     {
         airy_math::planned_once();

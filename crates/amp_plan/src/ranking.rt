@@ -5,10 +5,11 @@ ghost use Rattle.amp_plan.specs.Places.{place_in, letter_power};
 ghost use Rattle.amp_plan.specs.Limits.{Tells};
 ghost use Rattle.amp_plan.specs.Kept.{IsRanking};
 
+use crate::cause::{PlanCause, PlanErr};
 use crate::letter::letter_at;
 use crate::listing::{Stop, add_level};
+use crate::place::Place;
 use crate::search::{are_below, place_among};
-use crate::{Place, PlanCause, PlanErr};
 use airy_index::{Covers, Key};
 use key_index::KeyIndex;
 use sparse_tensor::Tensors;
@@ -68,7 +69,7 @@ impl Ranking {
         if !are_below(self.tensors.dim(), key.idx()) {
             return Place::BadIndex;
         }
-        key.is_key();
+        key.validity_fact();
         airy_math::planned_once();
         airy_math::plan_ascends();
         Place::At(place_among(self.index.keys(), key))

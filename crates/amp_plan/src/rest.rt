@@ -26,7 +26,7 @@ impl Rest {
         ensures list { result.list.items ≡ list.now }
         ensures rest { IsRest (shape_per_n ranking.now.tensors.shape) result }
     {
-        ranking.tensors().are_sound();
+        ranking.tensors().soundness_fact();
         let per_n = per_n(ranking.tensors().shape());
         let mut rest = Rest {
             list: ArrayVec::new(),

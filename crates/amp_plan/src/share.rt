@@ -1,3 +1,6 @@
+// The products of a pair by codes: parts are chosen run by run, and those that can't come where both keys are covered are passed
+// over. This is the walk where codes tell all keys of the plan apart. Where two keys have one code, `walk_splits` makes each key and
+// looks for it in their order; no plan is known at which that happens, and with it nothing need be stated of codes.
 ghost use Rattle.std.specs.Prelude.{◌≡◌, ◌≤◌, ◌<◌, ◌+◌, ◌-◌, ◌*◌, ◌/◌, ◌^◌, ◌+ℤ◌, ◌-ℤ◌, ◌∷◌, [], ℕ, pos, true, length};
 ghost use Rattle.std.specs.Int.RustNames.{unsigned_abs};
 ghost use Rattle.airy_math.specs.Cuts.{natural};
@@ -12,9 +15,10 @@ ghost use Rattle.amp_plan.specs.Shares.{can_reach as reached, choice_part, IsSha
 
 use crate::finding::find_live;
 use crate::measure::{Measure, above_zero, law_excess, per_n};
+use crate::pair::Pair;
 use crate::ranking::Ranking;
 use crate::rest::Rest;
-use crate::walk::{Pair, TermVisitor};
+use crate::visitor::TermVisitor;
 use key_index::KeyIndex;
 
 /// The products of a pair of indices with the genus k on the left: what its walk over splits needs.
@@ -199,7 +203,7 @@ impl Share {
         ensures right { IsMeasured (shape_per_n ranking.now.tensors.shape) (pair.now.b ∷ rest.now.list.items) result.right }
     {
         ranking.is_small();
-        ranking.tensors().are_sound();
+        ranking.tensors().soundness_fact();
         let shape = ranking.tensors().shape();
         let per_n = per_n(shape);
         let left = Measure::of(ranking.index(), per_n, pair.a);

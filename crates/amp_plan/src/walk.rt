@@ -1,61 +1,25 @@
-ghost use Rattle.std.specs.Prelude.{◌≡◌, ◌↔◌, ◌<◌, ◌≤◌, ◌∷◌, ◌++◌, ◌^◌, ◌-◌, [], ℕ, length, drop, nat_eq};
-ghost use Rattle.airy_math.specs.Rational.{whole};
+ghost use Rattle.std.specs.Prelude.{◌≡◌, ◌<◌, ◌≤◌, ◌∷◌, ◌++◌, ◌-◌, [], ℕ, length, drop};
 ghost use Rattle.airy_math.specs.Keys.{key_of, insert, remove, ordered, times};
 ghost use Rattle.airy_math.specs.Shapes.{per_n as shape_per_n};
-ghost use Rattle.airy_math.specs.Terms.{terms, obtained_half};
+ghost use Rattle.airy_math.specs.Terms.{terms};
 ghost use Rattle.airy_math.specs.Planned.{IsPlanned};
 ghost use Rattle.airy_index.specs.SplitValues.{split_value};
 ghost use Rattle.amp_plan.specs.Plans.{tensors_of, rank_at};
-ghost use Rattle.amp_plan.specs.Ranked.{RankedTerm, Alone, Once, Joined, Twice, NameAllowed, Takes, all_ranked};
+ghost use Rattle.amp_plan.specs.Ranked.{NameAllowed, Takes, all_ranked};
 ghost use Rattle.amp_plan.specs.Measures.{IsMeasured};
 ghost use Rattle.amp_plan.specs.Rests.{IsRest};
 ghost use Rattle.amp_plan.specs.Walk.{HasRoom, IsPartOf, live_rank, once_part, run_part, b_part, joined_part, split_part, genus_part, product_part, entry_part, c_part};
 
-use crate::Plan;
 use crate::finding::{rank_beside, rank_joined, rank_with};
 use crate::measure::{Measure, per_n};
+use crate::pair::{Pair, weight_of};
 use crate::ranking::Ranking;
 use crate::rest::Rest;
 use crate::share::walk_share;
+use crate::visitor::TermVisitor;
 use airy_index::{Key, Split, Splits};
 use arrayvec::ArrayVec;
 use frac128::Frac;
-
-/// Takes the terms of a pivot sum one after another, with ranks in place of keys.
-pub trait TermVisitor {
-    ghost State: { Type 0 };
-
-    ghost state: { Self → Self.State };
-
-    ghost step: { Self.State → RankedTerm → Self.State };
-
-    ghost allows: { Self → ℕ → Type 0 };
-
-    /// The term v.
-    fn alone(&mut self, v: Frac)
-        ensures step { state self.new ≡ step (state self.old) (Alone v) }
-        ensures stays { (r : ℕ) → allows self.new r ↔ allows self.old r };
-
-    /// The term (m v) F, where v stands for m equal indices, and F stands at the rank.
-    fn once(&mut self, times: u8, v: Frac, rank: u32)
-        requires { allows self.old rank }
-        ensures step { state self.new ≡ step (state self.old) (Once (whole times) v rank) }
-        ensures stays { (r : ℕ) → allows self.new r ↔ allows self.old r };
-
-    /// The term w F, where w is None if it isn't obtained.
-    fn joined(&mut self, weight: Option<Frac>, rank: u32)
-        requires { allows self.old rank }
-        ensures step { state self.new ≡ step (state self.old) (Joined weight rank) }
-        ensures stays { (r : ℕ) → allows self.new r ↔ allows self.old r };
-
-    /// The term ((w q) F1) F2, where w is None if it isn't obtained.
-    fn twice(&mut self, weight: Option<Frac>, ways: u64, left: u32, right: u32)
-        requires left { allows self.old left }
-        requires right { allows self.old right }
-        requires ways { ways < 2 ^ 63 }
-        ensures step { state self.new ≡ step (state self.old) (Twice weight (whole ways) left right) }
-        ensures stays { (r : ℕ) → allows self.new r ↔ allows self.old r };
-}
 
 /// The list without its first x.
 fn without(list: &[u8], x: u8) -> ArrayVec<u8, 26>
@@ -74,45 +38,14 @@ fn without(list: &[u8], x: u8) -> ArrayVec<u8, 26>
     left
 }
 
-/// A pair of indices of an entry of C, with its weight: v where they differ, else v (1/2), if that is obtained.
-#[derive(Clone, Copy)]
-pub(crate) struct Pair {
-    pub(crate) a: u8,
-    pub(crate) b: u8,
-    pub(crate) weight: Option<Frac>,
-}
-
-/// The weight of an entry of C.
-fn weight_of(a: u8, b: u8, v: Frac) -> Option<Frac>
-    ensures { result ≡ obtained_half (nat_eq a b) v }
-{
-    if a != b {
-        return Some(v);
-    }
-    match Frac::new(1, 2) {
-        Ok(half) => v.mul(half),
-        Err(_) => None,
-    }
-}
-
-/// Hands over all terms of the pivot sum of a planned key, for one of its indices, in their order.
-pub fn walk_terms<V: TermVisitor>(plan: &Plan, key: &Key, pivot: u8, visitor: &mut V)
-    requires planned { IsPlanned (tensors_of plan.now) plan.now.bound key.now }
-    requires pivot { 0 < times pivot key.now.idx }
-    requires allowed { NameAllowed (V.allows visitor.old) (all_ranked (rank_at plan.now) (terms (tensors_of plan.now) pivot key.now.g (remove pivot key.now.idx))) }
-    ensures { Takes V.allows V.state V.step (all_ranked (rank_at plan.now) (terms (tensors_of plan.now) pivot key.now.g (remove pivot key.now.idx))) visitor.old visitor.new }
-{
-    walk_ranked(plan.ranking(), key, pivot, visitor)
-}
-
-/// The same over a ranking.
+/// Hands over all terms of the pivot sum of a planned key, for one of its indices, in their order, over a ranking.
 pub(crate) fn walk_ranked<V: TermVisitor>(ranking: &Ranking, key: &Key, pivot: u8, visitor: &mut V)
     requires planned { IsPlanned (tensors_of ranking.now) ranking.now.bound key.now }
     requires pivot { 0 < times pivot key.now.idx }
     requires allowed { NameAllowed (V.allows visitor.old) (all_ranked (rank_at ranking.now) (terms (tensors_of ranking.now) pivot key.now.g (remove pivot key.now.idx))) }
     ensures { Takes V.allows V.state V.step (all_ranked (rank_at ranking.now) (terms (tensors_of ranking.now) pivot key.now.g (remove pivot key.now.idx))) visitor.old visitor.new }
 {
-    key.is_key();
+    key.validity_fact();
     let genus = key.g();
     let rest = without(key.idx(), pivot);
     let rest = rest.as_slice();
@@ -154,7 +87,7 @@ fn walk_run<V: TermVisitor>(
     ensures { Takes V.allows V.state V.step (run_part ranking.now pivot genus rest.now.list.items run) visitor.old visitor.new }
 {
     ranking.is_small();
-    ranking.tensors().are_sound();
+    ranking.tensors().soundness_fact();
     let left = without(rest.list.as_slice(), run.0);
     let left = left.as_slice();
     let per_n = per_n(ranking.tensors().shape());

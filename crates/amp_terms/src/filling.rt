@@ -9,7 +9,8 @@ ghost use Rattle.amp_terms.specs.Pivots.{pivot_outcome};
 ghost use Rattle.amp_terms.specs.Tables.{full_table, shown_in, IsFilled};
 
 use crate::Outcome;
-use crate::pivot::{Seen, pivot_value};
+use crate::pivot::pivot_value;
+use crate::shown::TableOutcomes;
 use crate::table::{NoMemory, Table};
 use airy_index::Key;
 use amp_plan::Plan;
@@ -34,40 +35,12 @@ fn outcome_at(plan: &Plan, rank: u32, table: &Table) -> Outcome
     requires lower { (q : ℕ) → q < rank → IsFilled table.now q }
     ensures { let key = key_at plan.now rank in result ≡ pivot_outcome (tensors_of plan.now) (keys_of plan.now) (shown_in table.now) key (head_or 0 key.idx) }
 {
-    plan.lists_planned();
-    plan.are_needs();
+    plan.planned_fact();
+    plan.needs_fact();
     let key = plan.key(rank);
-    key.is_key();
+    key.validity_fact();
     let pivot = key.idx()[0];
-    pivot_value(plan, &key, pivot, &mut Filled { table })
-}
-
-/// The ranks of a table that are filled.
-#[derive(Drop)]
-struct Filled<'a> {
-    table: &'a Table,
-}
-
-impl Seen for Filled<'_> {
-    ghost use Rattle.std.specs.Prelude.{List, Option};
-    ghost use Rattle.amp_terms.specs.declared.Outcome.{Outcome};
-    ghost use Rattle.amp_terms.specs.Tables.{IsFilled, shown_in};
-
-    ghost Base = { List (Option Outcome) };
-
-    ghost made_over = { λ s. s.table.now };
-
-    ghost has = { λ s. IsFilled s.table.now };
-
-    ghost shown = { λ s. shown_in s.table.now };
-
-    #[tactic(auto, unfolding(crate::specs::Tables::shown_in, crate::specs::Tables::IsFilled))]
-    fn at(&mut self, rank: u32) -> Outcome {
-        match self.table.outcome(rank) {
-            Some(outcome) => outcome,
-            None => unreachable!(),
-        }
-    }
+    pivot_value(plan, &key, pivot, &mut TableOutcomes { table })
 }
 
 /// A law: the ranks that the terms of a planned key name, for one of its indices, are ranks of the plan.
@@ -76,6 +49,6 @@ pub fn names_ranks(plan: &Plan, key: &Key, pivot: u8)
     requires pivot { 0 < times pivot key.now.idx }
     ensures { AreAllowed (λ r. r < length (keys_of plan.now)) (ranks_named (keys_of plan.now) (terms (tensors_of plan.now) pivot key.now.g (remove pivot key.now.idx))) }
 {
-    plan.lists_planned();
+    plan.planned_fact();
     airy_math::needs_first();
 }

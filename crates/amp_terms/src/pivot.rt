@@ -14,6 +14,7 @@ use crate::Outcome;
 use airy_index::Key;
 use amp_plan::{Plan, TermVisitor, walk_terms};
 use frac128::Frac;
+use running_sum::Unreduced;
 
 /// Outcomes of ranks that can be read.
 pub trait Seen {
@@ -49,7 +50,7 @@ pub fn pivot_value<S: Seen>(plan: &Plan, key: &Key, pivot: u8, seen: &mut S) -> 
     let mut sum = PivotSum {
         seen,
         blocked: None,
-        sum: Some(Frac::whole(0)),
+        sum: Unreduced::of(Frac::whole(0)),
     };
     add_terms(plan, key, pivot, &mut sum);
     sum.outcome()
@@ -76,7 +77,7 @@ fn add_terms<S: Seen>(plan: &Plan, key: &Key, pivot: u8, sum: &mut PivotSum<'_, 
 struct PivotSum<'a, S> {
     seen: &'a mut S,
     blocked: Option<u32>,
-    sum: Option<Frac>,
+    sum: Unreduced,
 }
 
 impl<'a, S: Seen> TermVisitor for PivotSum<'a, S> {
@@ -94,20 +95,19 @@ impl<'a, S: Seen> TermVisitor for PivotSum<'a, S> {
     ghost allows = { λ v r. S.has v.seen.now r };
 
     fn alone(&mut self, v: Frac) {
-        self.sum = plus(self.sum, Some(v));
+        self.sum.add(&Unreduced::of(v));
     }
 
     fn once(&mut self, times: u8, v: Frac, rank: u32) {
         let outcome = self.seen.at(rank);
         self.blocked = noted(self.blocked, rank, &outcome);
-        let weight = Frac::whole(i64::from(times)).mul(v);
-        self.sum = plus(self.sum, product(weight, number_of(&outcome)));
+        self.sum.add_once(times, v, number_of(&outcome));
     }
 
     fn joined(&mut self, weight: Option<Frac>, rank: u32) {
         let outcome = self.seen.at(rank);
         self.blocked = noted(self.blocked, rank, &outcome);
-        self.sum = plus(self.sum, product(weight, number_of(&outcome)));
+        self.sum.add_joined(weight, number_of(&outcome));
     }
 
     fn twice(&mut self, weight: Option<Frac>, ways: u64, left: u32, right: u32) {
@@ -115,9 +115,8 @@ impl<'a, S: Seen> TermVisitor for PivotSum<'a, S> {
         self.blocked = noted(self.blocked, left, &first);
         let second = self.seen.at(right);
         self.blocked = noted(self.blocked, right, &second);
-        let weight = product(weight, Frac::whole(ways as i64));
-        let term = product(product(weight, number_of(&first)), number_of(&second));
-        self.sum = plus(self.sum, term);
+        self.sum
+            .add_twice(weight, ways, number_of(&first), number_of(&second));
     }
 }
 
@@ -127,7 +126,7 @@ impl<S> PivotSum<'_, S> {
     fn outcome(&self) -> Outcome
         ensures { result ≡ outcome_from self.now.blocked self.now.sum }
     {
-        match (self.blocked, self.sum) {
+        match (self.blocked, self.sum.value()) {
             (Some(first), _) => Outcome::Blocked { first },
             (None, Some(v)) => Outcome::Value(v),
             (None, None) => Outcome::Over,
@@ -154,27 +153,5 @@ fn number_of(outcome: &Outcome) -> Frac
     match outcome {
         Outcome::Value(v) => *v,
         _ => Frac::whole(0),
-    }
-}
-
-/// The sum with one more term, if both are obtained and their sum is.
-#[tactic(auto, unfolding(airy_math::specs::Obtained::both_obtained))]
-fn plus(sum: Option<Frac>, term: Option<Frac>) -> Option<Frac>
-    ensures { result ≡ both_obtained obtained_sum sum term }
-{
-    match (sum, term) {
-        (Some(sum), Some(term)) => sum.add(term),
-        _ => None,
-    }
-}
-
-/// The product of a number, if it is obtained, with another.
-#[tactic(auto, unfolding(airy_math::specs::Obtained::both_obtained))]
-fn product(weight: Option<Frac>, v: Frac) -> Option<Frac>
-    ensures { result ≡ both_obtained obtained_product weight (Some v) }
-{
-    match weight {
-        Some(weight) => weight.mul(v),
-        None => None,
     }
 }

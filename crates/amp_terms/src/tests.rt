@@ -113,7 +113,7 @@ fn value_at(plan: &Plan, table: &Table, rank: u32, place: usize) -> Result<Outco
     if rank >= plan.len() || table.len() != plan.len() {
         return Err("rank".into());
     }
-    plan.lists_planned();
+    plan.planned_fact();
     let key = plan.key(rank);
     if place >= key.idx().len() {
         return Err("place".into());

@@ -11,7 +11,8 @@ use Rattle.std.proofs.Common.{rules}
 use Rattle.airy_math.specs.Rational.{ℚ}
 use Rattle.airy_math.specs.Shapes.{eq_z}
 use Rattle.airy_math.specs.Keys.{Key, head_or}
-use Rattle.series_law.specs.Check.{Verdict, Orders, judged, same_number}
+use Rattle.airy_math.specs.Tensors.{same_number}
+use Rattle.series_law.specs.Check.{Verdict, Orders, judged}
 use Rattle.std.specs.Prelude.{Some}
 
 ints_same : (a b : ℤ) → int_eq a b ≡ eq_z a b

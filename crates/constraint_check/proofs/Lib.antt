@@ -6,4 +6,5 @@ pub mod OtherPivots
 pub mod PivotsLeft
 pub mod KeysLeft
 pub mod FirstOver
+pub mod PieceLemmas
 pub mod EndLaws

@@ -2,7 +2,7 @@
 use Prim.Native.Nat.{ℕ, ◌<◌}
 use mathlib.Core.Path.{◌≡◌}
 use mathlib.Core.List.{List}
-use lib.ListN.{length, get_or}
+use lib.ListN.{length, get_or, drop}
 use Rattle.std.specs.Prelude.{Option, Some, None}
 use Rattle.airy_math.specs.Rational.{ℚ}
 use Rattle.airy_math.specs.Keys.{Key}
@@ -10,7 +10,7 @@ use Rattle.amp_plan.specs.Plans.{Planning, tensors_of, keys_of, key_at, rank_at}
 use Rattle.amp_terms.specs.declared.Outcome.{Outcome}
 use Rattle.amp_terms.specs.declared.Outcome.TheVariants as outcome
 use Rattle.amp_terms.specs.Outcomes.{outcomes, value_in}
-use Rattle.series_law.specs.Check.{Verdict}
+use Rattle.series_law.specs.Check.{Verdict, check_keys}
 use Rattle.series_law.specs.Check as verdict
 use Rattle.constraint_check.specs.declared.ends.CheckEnd.{CheckEnd}
 use Rattle.constraint_check.specs.declared.ends.CheckEnd.TheVariants.{NotValue, Over, Orders, Solution}
@@ -22,6 +22,10 @@ outcomes_of p = outcomes (tensors_of p) p.bound
 -- the Value of each planned key that has one, and 0 elsewhere
 unfoldable pub values_of : Planning → Key → ℚ
 values_of p = value_in (keys_of p) (outcomes_of p)
+
+-- the verdict of the keys from a rank on, in a table of Values
+unfoldable pub verdict_from : Planning → ℕ → Verdict
+verdict_from p r = check_keys (tensors_of p) (values_of p) (drop r (keys_of p))
 
 -- The end tells the verdict: they name the same pivots and numbers, and the end has the key where the verdict has the rank.
 unfoldable pub Tells : Planning → CheckEnd → Verdict → Type 0

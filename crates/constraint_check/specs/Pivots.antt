@@ -1,5 +1,6 @@
 -- Tables of Values, and the verdict of one key's pivots.
-use Prim.Native.Nat.{ℕ}
+use Prim.Native.Nat.{ℕ, ◌+◌, ◌*◌, ◌/◌, ◌%◌, ◌≤◌}
+use Rattle.std.specs.Prelude.{min}
 use mathlib.Core.Path.{◌≡◌}
 use mathlib.Core.List.{List}
 use lib.ListN.{length}
@@ -10,6 +11,7 @@ use Rattle.amp_plan.specs.Plans.{Planning, tensors_of, keys_of}
 use Rattle.amp_terms.specs.declared.Outcome.{Outcome}
 use Rattle.amp_terms.specs.Tables.{full_table, first_without}
 use Rattle.series_law.specs.Check.{Verdict, Overflow, Orders}
+use Rattle.constraint_check.specs.Ends.{verdict_from}
 use Rattle.constraint_check.specs.declared.pivots.PivotsEnd.{PivotsEnd}
 use Rattle.constraint_check.specs.declared.pivots.PivotsEnd.TheVariants.{Agree, Over, Differ}
 
@@ -24,3 +26,12 @@ unfoldable pub verdict_after : Key → ℚ → PivotsEnd → Verdict → Verdict
 verdict_after key w Agree next = next
 verdict_after key w (Over i) next = Overflow key i
 verdict_after key w (Differ i v) next = Orders key (head_or 0 key.idx) w i v
+
+-- in a table of Values the keys below the rank r pass
+pub record HasPassed (p : Planning) (table : List (Option Outcome)) (r : ℕ) : Type 0 where
+  pub within : r ≤ length (keys_of p)
+  pub passed : HoldsValues p table → verdict_from p 0 ≡ verdict_from p r
+
+-- the rank at which the piece k begins, where so many ranks are cut into n pieces whose lengths differ by at most 1
+unfoldable pub cut_at : ℕ → ℕ → ℕ → ℕ
+cut_at len n k = k * (len / n) + min k (len % n)

@@ -1,4 +1,4 @@
-ghost use Rattle.std.specs.Prelude.{◌≡◌, ◌≢◌, ◌<◌, length};
+ghost use Rattle.std.specs.Prelude.{◌≡◌, ◌≢◌, ◌<◌, ◌≤◌, length};
 ghost use Rattle.airy_math.specs.Terms.{pivot_sum};
 ghost use Rattle.airy_math.specs.Series.{Series};
 ghost use Rattle.airy_math.specs.Solutions.{Solves};
@@ -6,9 +6,9 @@ ghost use Rattle.amp_plan.specs.Plans.{tensors_of, keys_of, key_at};
 ghost use Rattle.amp_terms.specs.Tables.{full_table};
 ghost use Rattle.series_law.specs.Uniqueness.{series_of};
 ghost use Rattle.series_law.specs.Pivots.{AllPivots};
-ghost use Rattle.series_law.specs.Check.{check, check_keys};
-ghost use Rattle.constraint_check.specs.Pivots.{HoldsValues};
-ghost use Rattle.constraint_check.specs.Ends.{outcomes_of, values_of, Tells, NamesOver, IfSolution, IfOrders};
+ghost use Rattle.series_law.specs.Check.{check};
+ghost use Rattle.constraint_check.specs.Pivots.{HoldsValues, HasPassed};
+ghost use Rattle.constraint_check.specs.Ends.{outcomes_of, values_of, verdict_from, Tells, NamesOver, IfSolution, IfOrders};
 
 use crate::CheckEnd;
 use crate::pivots::{PivotsEnd, check_pivots};
@@ -37,15 +37,32 @@ pub fn check_table(plan: &Plan, table: &Table) -> CheckEnd
     ensures differ { IfOrders result (λ key i v j w. v ≢ w) }
     ensures unsolvable { IfOrders result (λ key i v j w. (f : Series) → Solves (tensors_of plan.now) plan.now.bound f → ⊥) }
 {
-    plan.tensors().are_sound();
+    check_passed(plan, table, 0)
+}
+
+/// The same, where the keys below the rank `passed` are known to pass.
+pub(crate) fn check_passed(plan: &Plan, table: &Table, passed: u32) -> CheckEnd
+    requires outcomes { table.now ≡ full_table (tensors_of plan.now) plan.now.bound }
+    requires len { length table.now ≡ length (keys_of plan.now) }
+    requires passed { HasPassed plan.now table.now passed }
+    ensures verdict { Tells plan.now result (check (tensors_of plan.now) plan.now.bound (outcomes_of plan.now)) }
+    ensures over { NamesOver plan.now table.now result }
+    ensures passes { IfSolution result (AllPivots (tensors_of plan.now) plan.now.bound (outcomes_of plan.now)) }
+    ensures solves { IfSolution result (Solves (tensors_of plan.now) plan.now.bound (series_of (tensors_of plan.now) plan.now.bound (outcomes_of plan.now))) }
+    ensures sums { IfOrders result (λ key i v j w. (v ≡ pivot_sum (tensors_of plan.now) (values_of plan.now) key i) × (w ≡ pivot_sum (tensors_of plan.now) (values_of plan.now) key j)) }
+    ensures differ { IfOrders result (λ key i v j w. v ≢ w) }
+    ensures unsolvable { IfOrders result (λ key i v j w. (f : Series) → Solves (tensors_of plan.now) plan.now.bound f → ⊥) }
+{
+    plan.tensors().soundness_fact();
     series_law::check();
-    first_failure(plan, table)
+    first_failure(plan, table, passed)
 }
 
 /// The first rank without a Value; else the first pivot that fails.
-fn first_failure(plan: &Plan, table: &Table) -> CheckEnd
+fn first_failure(plan: &Plan, table: &Table, passed: u32) -> CheckEnd
     requires outcomes { table.now ≡ full_table (tensors_of plan.now) plan.now.bound }
     requires len { length table.now ≡ length (keys_of plan.now) }
+    requires passed { HasPassed plan.now table.now passed }
     ensures verdict { Tells plan.now result (check (tensors_of plan.now) plan.now.bound (outcomes_of plan.now)) }
     ensures over { NamesOver plan.now table.now result }
 {
@@ -56,18 +73,19 @@ fn first_failure(plan: &Plan, table: &Table) -> CheckEnd
             key: plan.key(rank),
         };
     }
-    check_keys(plan, table)
+    check_keys(plan, table, passed)
 }
 
-/// The first pivot that fails in a table of Values.
+/// The first pivot that fails in a table of Values, of the keys from a rank on.
 #[tactic(auto, unfolding(crate::specs::Ends::NamesOver))]
-fn check_keys(plan: &Plan, table: &Table) -> CheckEnd
+fn check_keys(plan: &Plan, table: &Table, from: u32) -> CheckEnd
     requires values { HoldsValues plan.now table.now }
-    ensures verdict { Tells plan.now result (check_keys (tensors_of plan.now) (values_of plan.now) (keys_of plan.now)) }
+    requires from { from ≤ length (keys_of plan.now) }
+    ensures verdict { Tells plan.now result (verdict_from plan.now from) }
     ensures over { NamesOver plan.now table.now result }
 {
     airy_math::planned_once();
-    for rank in 0..plan.len() {
+    for rank in from..plan.len() {
         let key = plan.key(rank);
         let value = key_value(plan, table, rank);
         match check_pivots(plan, table, &key, value) {
@@ -88,7 +106,7 @@ fn check_keys(plan: &Plan, table: &Table) -> CheckEnd
 }
 
 /// The Value of a rank in a table of Values.
-fn key_value(plan: &Plan, table: &Table, rank: u32) -> Frac
+pub(crate) fn key_value(plan: &Plan, table: &Table, rank: u32) -> Frac
     requires values { HoldsValues plan.now table.now }
     requires rank { rank < length (keys_of plan.now) }
     ensures { result ≡ values_of plan.now (key_at plan.now rank) }

@@ -4,16 +4,16 @@ use Rattle.std.specs.Option.{option_and_then}
 use Rattle.airy_math.specs.Gcd.{gcd}
 
 -- from -(2^127-1) to 2^127-1
-abbrev pub in_range : ℤ → Bool
-in_range z = nat_lt (unsigned_abs z) (2 ^ 127)
+abbrev pub range_fact : ℤ → Bool
+range_fact z = nat_lt (unsigned_abs z) (2 ^ 127)
 
 -- the number, where it is in range
 abbrev pub ranged : ℤ → Option ℤ
-ranged z = cond (in_range z) (Some z) None
+ranged z = cond (range_fact z) (Some z) None
 
 -- the sum, where it and its two parts are in range
 abbrev pub ranged_sum : ℤ → ℤ → Option ℤ
-ranged_sum l r = cond (in_range l && in_range r && in_range (l +ℤ r)) (Some (l +ℤ r)) None
+ranged_sum l r = cond (range_fact l && range_fact r && range_fact (l +ℤ r)) (Some (l +ℤ r)) None
 
 -- two sizes, where both are in range
 abbrev pub sized : ℕ → ℕ → Option (ℕ × ℕ)

@@ -23,6 +23,22 @@ fn lowest_terms(rt: HostRuntime) -> Result<(), Fail> {
 }
 
 #[test]
+fn lowest_terms_without_a_gcd(rt: HostRuntime) -> Result<(), Fail> {
+    let x = fraction(-3, 8)?;
+    x.range_fact();
+    let (num, den) = x.parts();
+    assert_eq!(rt; Frac::of_lowest(num, den.unsigned_abs()), x);
+    assert_eq!(rt; Frac::over_twos(12, 3).parts(), (3, 2));
+    assert_eq!(rt; Frac::over_twos(-12, 1).parts(), (-6, 1));
+    assert_eq!(rt; Frac::over_twos(0, 126).parts(), (0, 1));
+    assert_eq!(rt;
+        Frac::over_twos(-GREATEST, 126).parts(),
+        (-GREATEST, 1 << 126)
+    );
+    Ok(())
+}
+
+#[test]
 fn sums(rt: HostRuntime) -> Result<(), Fail> {
     let half = fraction(1, 2)?;
     let one = Frac::whole(1);

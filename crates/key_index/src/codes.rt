@@ -65,6 +65,6 @@ pub(crate) fn key_code(codes: &Codes, key: &Key) -> u64
     requires { AreCodes codes.now }
     ensures { result ≡ code_of key.now }
 {
-    key.is_key();
+    key.validity_fact();
     genus_code(key.g()) + list_code(codes, key.idx())
 }

@@ -1,5 +1,6 @@
-ghost use Rattle.std.specs.Prelude.{◌≡◌, ◌≤◌, ◌<◌, ◌-◌, IfOk, true};
+ghost use Rattle.std.specs.Prelude.{◌≡◌, ◌≤◌, ◌<◌, ◌+◌, ◌-◌, ◌*◌, IfOk, true, ℕ};
 ghost use Rattle.named_families.specs.Families.{StandsFor, top};
+ghost use Rattle.named_families.specs.Closing.{MeetsRelations};
 ghost use Rattle.named_families.specs.Exact.{IsBegun};
 ghost use Rattle.airy_math.specs.Named as named;
 ghost use Rattle.airy_math.specs.Families.{top_wk, top_bgw};
@@ -45,29 +46,33 @@ pub(crate) fn with_corner(
 
 /// The tensors of Witten and Kontsevich with all indices below dim, which is from 1 to 72: `A^0_{00} = 1`,
 /// `B^i_{jk} = 2j + 1` where `i + j = k + 1`, `C^i_{jk} = 1` where `i = j + k + 2`, and `D^1 = 1/8`. Their shape is
-/// Exact(3, 1), and they carry no letter.
+/// Exact(3, 1), and they carry no letter. They meet the five relations in all places below N, for every N with 2N + 1 at most dim.
 pub fn wk_cut(alloc: Global, dim: u8) -> Result<Tensors, NoMemory>
     requires some { 0 < dim }
     requires most { dim ≤ 72 }
-    ensures { IfOk result (λ t. StandsFor t (named.wk (dim - 1))) }
+    ensures stands { IfOk result (λ t. StandsFor t (named.wk (dim - 1))) }
+    ensures closes { IfOk result (λ t. (N : ℕ) → 2 * N + 1 ≤ t.dim → MeetsRelations t N) }
 {
     let shape = Shape::Exact(Law { per_g: 3, per_n: 1 });
     let mut tensors = with_corner(alloc, dim, shape, false)?;
     fill_exact(&mut tensors, 1)?;
+    crate::wk_closes();
     Ok(tensors)
 }
 
 /// The tensors of Brezin, Gross and Witten with all indices below dim, which is from 1 to 72: A is 0,
 /// `B^i_{jk} = 2j + 1` where `i + j = k`, `C^i_{jk} = 1` where `i = j + k + 1`, and `D^0 = 1/8`. Their shape is
-/// Exact(1, 0), and they carry no letter.
+/// Exact(1, 0), and they carry no letter. They meet the five relations as far as those of wk do.
 pub fn bgw_cut(alloc: Global, dim: u8) -> Result<Tensors, NoMemory>
     requires some { 0 < dim }
     requires most { dim ≤ 72 }
-    ensures { IfOk result (λ t. StandsFor t (named.bgw (dim - 1))) }
+    ensures stands { IfOk result (λ t. StandsFor t (named.bgw (dim - 1))) }
+    ensures closes { IfOk result (λ t. (N : ℕ) → 2 * N + 1 ≤ t.dim → MeetsRelations t N) }
 {
     let shape = Shape::Exact(Law { per_g: 1, per_n: 0 });
     let mut tensors = Tensors::empty(alloc, dim, shape, false)?;
     fill_exact(&mut tensors, 0)?;
+    crate::bgw_closes();
     Ok(tensors)
 }
 
@@ -75,7 +80,8 @@ pub fn bgw_cut(alloc: Global, dim: u8) -> Result<Tensors, NoMemory>
 pub fn wk(alloc: Global, bound: u8) -> Result<Tensors, NoMemory>
     requires some { 0 < bound }
     requires most { bound ≤ 24 }
-    ensures { IfOk result (λ t. StandsFor t (named.wk (top_wk bound))) }
+    ensures stands { IfOk result (λ t. StandsFor t (named.wk (top_wk bound))) }
+    ensures closes { IfOk result (λ t. (N : ℕ) → 2 * N + 1 ≤ t.dim → MeetsRelations t N) }
 {
     wk_cut(alloc, top_of(Family::Wk, bound) + 1)
 }
@@ -84,7 +90,8 @@ pub fn wk(alloc: Global, bound: u8) -> Result<Tensors, NoMemory>
 pub fn bgw(alloc: Global, bound: u8) -> Result<Tensors, NoMemory>
     requires some { 0 < bound }
     requires most { bound ≤ 24 }
-    ensures { IfOk result (λ t. StandsFor t (named.bgw (top_bgw bound))) }
+    ensures stands { IfOk result (λ t. StandsFor t (named.bgw (top_bgw bound))) }
+    ensures closes { IfOk result (λ t. (N : ℕ) → 2 * N + 1 ≤ t.dim → MeetsRelations t N) }
 {
     bgw_cut(alloc, top_of(Family::Bgw, bound) + 1)
 }

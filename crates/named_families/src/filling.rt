@@ -27,7 +27,7 @@ fn fill_place_b(tensors: &mut Tensors, shift: u8, i: u8, j: u8) -> Result<(), No
     ensures filled { OnOk result (FillsB shift i (j + 1) tensors.new) }
     ensures others { OnOk result (tensors.new ≡ record tensors.old { b = tensors.new.b }) }
 {
-    tensors.are_sound();
+    tensors.soundness_fact();
     let sum = i + j;
     if sum < shift || sum - shift >= tensors.dim() {
         return Ok(());
@@ -79,7 +79,7 @@ fn fill_row_c(tensors: &mut Tensors, shift: u8, i: u8) -> Result<(), NoMemory>
     }
     let sum = i - shift - 1;
     for j in 0..sum / 2 + 1 {
-        tensors.are_sound();
+        tensors.soundness_fact();
         unless_wanting(tensors.put_c(i, j, sum - j, Frac::whole(1)))?;
     }
     Ok(())
@@ -120,7 +120,7 @@ fn fill_d(tensors: &mut Tensors, shift: u8) -> Result<(), NoMemory>
     if shift >= tensors.dim() {
         return Ok(());
     }
-    tensors.are_sound();
+    tensors.soundness_fact();
     unless_wanting(tensors.put_d(shift, eighth()))
 }
 

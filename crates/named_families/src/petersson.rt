@@ -1,7 +1,8 @@
-ghost use Rattle.std.specs.Prelude.{◌≡◌, ◌≤◌, ◌<◌, ◌+◌, ◌-◌, OnOk, IfOk, IfErr, pos, [], None, suc, true};
+ghost use Rattle.std.specs.Prelude.{◌≡◌, ◌≤◌, ◌<◌, ◌+◌, ◌-◌, ◌*◌, OnOk, IfOk, IfErr, pos, [], None, suc, true, ℕ};
 ghost use Rattle.airy_math.specs.Families as exact;
 ghost use Rattle.airy_math.specs.Families.{wp_shape, top_wk};
 ghost use Rattle.airy_math.specs.Rational.{◌/ℚ◌};
+ghost use Rattle.named_families.specs.Closing.{MeetsRelations};
 ghost use Rattle.named_families.specs.Filling.{FillsWpB, FillsWpC, FillsWpD};
 ghost use Rattle.named_families.specs.Families.{StandsForLettered, Names};
 ghost use Rattle.named_families.specs.declared.petersson.MakeErr.TheVariants as make;
@@ -56,7 +57,7 @@ fn fill_place_b(
     ensures obtained { OnOk result (place_refusal most i j k ≡ None) }
     ensures over { IfErr result (λ e. Names e (place_refusal most i j k)) }
 {
-    tensors.are_sound();
+    tensors.soundness_fact();
     let e = k + 1 - (i + j);
     let Some(value) = Frac::whole(2 * j as i64 + 1).mul(numbers[e as usize]) else {
         return Err(MakeErr::Over { k: e });
@@ -84,7 +85,7 @@ fn fill_row_b(
     ensures obtained { OnOk result (row_refusal tensors.old.dim most i j ≡ None) }
     ensures over { IfErr result (λ e. Names e (row_refusal tensors.old.dim most i j)) }
 {
-    tensors.are_sound();
+    tensors.soundness_fact();
     let end = tensors.dim().min(most + i + j);
     for k in (i + j).saturating_sub(1)..end {
         fill_place_b(tensors, numbers, most, i, j, k)?;
@@ -144,11 +145,11 @@ fn fill_row_c(
     ensures filled { OnOk result (FillsWpC most i (j + 1) 0 tensors.new) }
     ensures others { OnOk result (tensors.new ≡ record tensors.old { c = tensors.new.c }) }
 {
-    tensors.are_sound();
+    tensors.soundness_fact();
     let start = j.max(i.saturating_sub(j + 2));
     let end = tensors.dim().min((most + i).saturating_sub(j + 1));
     for k in start..end {
-        tensors.are_sound();
+        tensors.soundness_fact();
         let number = numbers[(j + k + 2 - i) as usize];
         unless_wanting(tensors.put_c(i, j, k, number))?;
     }
@@ -208,12 +209,12 @@ fn fill_wp_d(tensors: &mut Tensors) -> Result<(), NoMemory>
     ensures filled { OnOk result (FillsWpD tensors.new) }
     ensures others { OnOk result (tensors.new ≡ record tensors.old { d = tensors.new.d }) }
 {
-    tensors.are_sound();
+    tensors.soundness_fact();
     unless_wanting(tensors.put_d(0, twelfth()))?;
     if tensors.dim() == 1 {
         return Ok(());
     }
-    tensors.are_sound();
+    tensors.soundness_fact();
     unless_wanting(tensors.put_d(1, eighth()))
 }
 
@@ -229,12 +230,15 @@ fn fill_wp_d(tensors: &mut Tensors) -> Result<(), NoMemory>
 ///
 /// It is refused with `Over` where such a step leaves the range, and k is then that of the first `u_k` or `c_k`, or e of the
 /// first product, that isn't obtained; and with `NoMemory` for want of memory.
+///
+/// They meet the five relations in all places below N, for every N with 2N + 1 at most dim and at most `most`.
 pub fn wp_cut(alloc: Global, dim: u8, most: u8) -> Result<Tensors, MakeErr>
     requires some { 0 < dim }
     requires within { dim ≤ 72 }
     requires exponents { 0 < most }
     requires most { most ≤ 72 }
     ensures stands { IfOk result (λ t. StandsForLettered t (exact.wp_cut dim most)) }
+    ensures closes { IfOk result (λ t. (N : ℕ) → 2 * N + 1 ≤ t.dim → 2 * N + 1 ≤ most → MeetsRelations t N) }
     ensures obtained { OnOk result (wp_refusal dim most ≡ None) }
     ensures over { IfErr result (λ e. Names e (wp_refusal dim most)) }
 {
@@ -247,15 +251,17 @@ pub fn wp_cut(alloc: Global, dim: u8, most: u8) -> Result<Tensors, MakeErr>
     fill_wp_b(&mut tensors, &numbers, most)?;
     fill_wp_c(&mut tensors, &numbers, most)?;
     fill_wp_d(&mut tensors)?;
+    crate::wp_closes();
     Ok(tensors)
 }
 
 /// Those of Weil and Petersson that a table up to the bound needs: all indices and all exponents up to its top. The bound
-/// is from 1 to 24.
+/// is from 1 to 24. They meet the five relations in all places below N, for every N with 2N + 1 at most the top.
 pub fn wp(alloc: Global, bound: u8) -> Result<Tensors, MakeErr>
     requires some { 0 < bound }
     requires most { bound ≤ 24 }
     ensures stands { IfOk result (λ t. StandsForLettered t (exact.wp_cut (suc (top_wk bound)) (top_wk bound))) }
+    ensures closes { IfOk result (λ t. (N : ℕ) → 2 * N + 1 ≤ top_wk bound → MeetsRelations t N) }
     ensures obtained { OnOk result (wp_refusal (suc (top_wk bound)) (top_wk bound) ≡ None) }
     ensures over { IfErr result (λ e. Names e (wp_refusal (suc (top_wk bound)) (top_wk bound))) }
 {

@@ -1,18 +1,27 @@
 -- What the check of a job's table says of the job's solutions.
-use Prim.Native.Nat.{ℕ, suc, ◌+◌, ◌-◌, ◌<◌}
-use mathlib.Core.Path.{◌≡◌, refl, ap}
+use Prim.Native.Nat.{ℕ, suc, ◌+◌, ◌-◌}
+use mathlib.Core.Path.{◌≡◌, refl, sym, ap, ◌∙◌}
 use mathlib.Core.Bool.{Bool, true, false, ◌&&◌}
 use native.Mathlib.Omega.{arith}
 use lib.Dec.{leb, eqb}
-use Rattle.airy_math.specs.RationalLaws.{1ℚ}
+use Rattle.airy_math.specs.Rational.{ℚ}
+use Rattle.airy_math.specs.RationalLaws.{0ℚ, 1ℚ}
+use Rattle.airy_math.specs.Keys.{Key}
+use Rattle.airy_math.specs.Series.{Series}
+use Rattle.airy_math.specs.Cuts.{letter_of, power}
 use Rattle.airy_math.specs.Sums.{when}
 use Rattle.airy_math.specs.Tensors.{Tensors, IsSymmetric, IsGraded}
 use Rattle.airy_math.specs.Families.{top_wk, top_bgw, wp_cut, wp_number}
-use Rattle.airy_math.specs.Jobs.{Structure, Wk, Bgw, Wp, Bulk, Text, Lettered, planned_tensors, IsSound}
+use Rattle.airy_math.specs.Jobs.{Structure, Wk, Bgw, Wp, Bulk, Text, Lettered, IsSolutionOf, IsSound, letter_value, planned_tensors, tensors_at}
 use Rattle.airy_math.proofs.FamilyLaw.{wk_graded, wk_symmetric, bgw_graded, bgw_symmetric, wp_cut_graded}
+use Rattle.airy_math.proofs.FamilyPlans.{le_self}
+use Rattle.airy_math.proofs.JobCutLaw.{ready}
+use Rattle.airy_math.proofs.PowerLemmas.{power_not_zero, power_none}
 use Rattle.amp_terms.specs.Outcomes.{outcomes}
+use Rattle.series_law.specs.Check.{check, Checks, Orders}
 use Rattle.series_law.specs.Jobs.{JobCheckedLaw}
-use Rattle.series_law.proofs.CheckLaw.{check_law}
+use Rattle.series_law.proofs.CheckLaw.{check_law, two_orders}
+use Rattle.series_law.proofs.PivotsLaw.{cut_orders}
 use Rattle.series_law.proofs.JobLaw.{job_solution}
 
 exchanged : (p q r : Bool) → (p && q && r) ≡ (p && r && q)
@@ -47,11 +56,26 @@ plan_sound (Text T) X h = record { symmetric = h.0; graded = h.1 }
 plan_sound (Lettered T) X h = record { symmetric = h.0; graded = h.1 }
 
 pub job_checked : JobCheckedLaw
-job_checked s X h x =
-    let T = planned_tensors s X in
-    let sound = plan_sound s X h in
-    let checks = check_law T X sound.symmetric sound.graded in
-    record {
-      solved = λ e m v w. job_solution s X h x (outcomes T X) (checks.passed e) m v w;
-      unsolvable = λ key i j a b e f so. checks.no_solution key i j a b e f so;
-    }
+job_checked s X h x = record {
+  solved = λ e m v w. job_solution s X h x (outcomes T X) (checks.passed e) m v w;
+  unsolvable = λ key i j a b e f so. checks.no_solution key i j a b e f so;
+  nowhere = λ key i j a b e. record {
+    but_zero = λ m v f some so. no_series key i j a b e m v f (power_not_zero (letter_value s v) (letter_of T.shape key) some) so;
+    zero_too = λ none m v f so. no_series key i j a b e m v f (power_none (letter_value s v) (letter_of T.shape key) none) so;
+  };
+}
+  where
+    T : Tensors
+    T = planned_tensors s X
+
+    sound : ArePlanned T
+    sound = plan_sound s X h
+
+    checks : Checks T X
+    checks = check_law T X sound.symmetric sound.graded
+
+    no_series : (key : Key) (i j : ℕ) (a b : ℚ) → check T X (outcomes T X) ≡ Orders key i a j b → (m : ℕ) (v : ℚ) (f : Series) → (power (letter_value s v) (letter_of T.shape key) ≡ 0ℚ → ⊥) → IsSolutionOf s X m v f → ⊥
+    no_series key i j a b e m v f some so =
+        let o = two_orders T X sound.graded key i j a b e in
+        let r = ready s X X m v h x (le_self X) so.wide in
+        cut_orders X (letter_value s v) T (tensors_at s m v) r.graded r.symmetric' r.graded' r.cut o.full key o.listed i j o.stands.0 o.stands.1 (λ same. o.differ (o.sums.0 ∙ same ∙ sym o.sums.1)) some f so.solves

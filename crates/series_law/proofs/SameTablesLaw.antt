@@ -25,7 +25,7 @@ use Rattle.series_law.specs.Uniqueness.{series_of}
 use Rattle.series_law.specs.Pivots.{AllPivots}
 use Rattle.series_law.specs.Check.{Verdict, judged, other_pivots, check_pivots, check_keys, check_values, check}
 use Rattle.series_law.specs.SameTables.{SameTablesLaw}
-use Rattle.series_law.proofs.CheckLaw.{others_stand}
+use Rattle.series_law.proofs.FirstLaw.{others_stand}
 
 -- ---- outcomes
 

@@ -1,10 +1,7 @@
 ghost use Rattle.std.specs.Prelude.{◌≡◌, length, true, IfSome};
-ghost use Rattle.airy_math.specs.Series.{Series};
-ghost use Rattle.airy_math.specs.Solutions.{Solves, amplitude};
-ghost use Rattle.amp_plan.specs.Plans.{tensors_of, keys_of};
+ghost use Rattle.amp_plan.specs.Plans.{keys_of};
 ghost use Rattle.amp_plan.specs.Places.{are_below};
-ghost use Rattle.amp_terms.specs.Tables.{full_table};
-ghost use Rattle.series_law.specs.Amplitudes.{shown_amplitude};
+ghost use Rattle.series_law.specs.Amplitudes.{HoldsOutcomes, IsAmplitude, shown_amplitude};
 
 use airy_index::Key;
 use amp_plan::{Place, Plan};
@@ -12,15 +9,15 @@ use amp_terms::Table;
 use frac128::Frac;
 
 /// The amplitude that a table of the plan shows at a key: the Value of a planned key that has one, and 0 where the shape doesn't
-/// cover the key. Where the table holds the outcome of every rank, it is what every solution of the plan's tensors up to the bound
-/// has there.
+/// cover the key. Where each filled cell of the table holds its rank's outcome, it is what every solution of the plan's tensors up to
+/// the bound has there; the other cells may be empty.
 pub fn amplitude_of(plan: &Plan, table: &Table, key: &Key) -> Option<Frac>
     requires { length table.now ≡ length (keys_of plan.now) }
     ensures amplitude { result ≡ shown_amplitude plan.now table.now key.now }
-    ensures unique { table.now ≡ full_table (tensors_of plan.now) plan.now.bound → are_below plan.now.tensors.dim key.now.idx ≡ true → (f : Series) → Solves (tensors_of plan.now) plan.now.bound f → IfSome result (λ v. amplitude plan.now.tensors.dim f key.now ≡ v) }
+    ensures unique { HoldsOutcomes plan.now table.now → are_below plan.now.tensors.dim key.now.idx ≡ true → IfSome result (IsAmplitude plan.now key.now) }
 {
-    plan.tensors().are_sound();
-    key.is_key();
+    plan.tensors().soundness_fact();
+    key.validity_fact();
     crate::uniqueness();
     airy_math::planned_once();
     match plan.rank_of(key) {

@@ -200,10 +200,10 @@ in_range-with_entry x (e ∷ es) r h = by (place_before x e) (in_range-with_entr
     by true rest = (r, h)
     by false rest = (h.0, rest)
 
-pub in_range-with_value : (n : ℕ) (v : ℚ) (es : List (ℕ × ℚ)) → IsInRange v → AreInRangeByIndex es → AreInRangeByIndex (with_value n v es)
+pub range_fact-with_value : (n : ℕ) (v : ℚ) (es : List (ℕ × ℚ)) → IsInRange v → AreInRangeByIndex es → AreInRangeByIndex (with_value n v es)
 unfolding with_value AreInRangeByIndex
-in_range-with_value n v [] r h = (r, tt)
-in_range-with_value n v (e ∷ es) r h = by (ltb n e.0) (in_range-with_value n v es r h.1)
+range_fact-with_value n v [] r h = (r, tt)
+range_fact-with_value n v (e ∷ es) r h = by (ltb n e.0) (range_fact-with_value n v es r h.1)
   where
     by : (t : Bool) → AreInRangeByIndex (with_value n v es) → AreInRangeByIndex (cond t ((n, v) ∷ e ∷ es) (e ∷ with_value n v es))
     by true rest = (r, h)

@@ -15,7 +15,7 @@ use Rattle.sparse_tensor.specs.Grades.{keeps, keeps_a, keeps_b, keeps_c, keeps_d
 use Rattle.sparse_tensor.specs.Puts.{Putting, Outside, Nothing, Ungraded, Taken, putting, are_inside, with_a, with_b, with_c, with_d}
 use Rattle.sparse_tensor.specs.Rows.{Places}
 use Rattle.sparse_tensor.specs.Parts.{gathered, AreParts, checked, answered}
-use Rattle.sparse_tensor.proofs.EntryLemmas.{ascending-with_entry, stored-with_entry, ordered-with_entry, stored-with_value, in_range-with_entry, in_range-with_value}
+use Rattle.sparse_tensor.proofs.EntryLemmas.{ascending-with_entry, stored-with_entry, ordered-with_entry, stored-with_value, in_range-with_entry, range_fact-with_value}
 use Rattle.sparse_tensor.proofs.RowLemmas.{ascending-with_value}
 use Rattle.sparse_tensor.proofs.SoundLaw.{some_number}
 
@@ -244,7 +244,7 @@ entries-d t i v h ok r free =
       a_in_range = h.a_in_range;
       b_in_range = h.b_in_range;
       c_in_range = h.c_in_range;
-      d_in_range = in_range-with_value i v t.d r h.d_in_range;
+      d_in_range = range_fact-with_value i v t.d r h.d_in_range;
     }
 
 -- ---- the parts with one more entry

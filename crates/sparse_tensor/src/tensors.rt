@@ -68,9 +68,9 @@ fn are_inside(dim: u8, i: u8, j: u8, k: u8) -> bool
 /// Whether the entry v is to be stored, or why it can't be.
 fn admitted(inside: bool, v: Frac, graded: bool) -> Result<bool, PutErr>
     ensures value { result ≡ checked inside (is_zero v) graded }
-    ensures in_range { IsInRange v }
+    ensures range_fact { IsInRange v }
 {
-    v.in_range();
+    v.range_fact();
     if !inside {
         Err(PutErr::Index)
     } else if v.is_zero() {
@@ -263,7 +263,7 @@ impl Tensors {
     }
 
     /// What all tensors keep: the fact, for proofs of callers.
-    pub fn are_sound(&self)
+    pub fn soundness_fact(&self)
         ensures { AreSound self.now }
     {
         let _dim = self.dim;

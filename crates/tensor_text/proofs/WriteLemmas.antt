@@ -2,13 +2,12 @@
 use Rattle.std.proofs.Common.{◌≡◌, ℕ, zero, suc, ◌+◌, ◌-◌, ◌<◌, ◌≤◌, List, [], ◌++◌, refl, sym, ap, ◌∙◌, subst, arith, append_assoc, append-nil, length-append, Ok, Err, Result, Option, Some, None}
 use Rattle.std.specs.Io.KnownBytes.{Appends}
 use Rattle.std.proofs.lemmas.List.{take-append-le}
-use Rattle.airy_io.specs.Causes.{AppendsPrefix}
+use Rattle.airy_io.specs.Causes.{AppendsPrefix, Taking, Writes}
 use Rattle.airy_io.proofs.Writes.{Appends-more}
 use Rattle.airy_io.proofs.Prefixes.{AppendsPrefix-more}
 use Rattle.tensor_text.specs.Pieces.{each_from, first_in}
 use Rattle.tensor_text.specs.declared.letters.Letter.{Letter}
 use Rattle.tensor_text.specs.declared.letters.Letter.TheVariants.{A, B, C}
-use Rattle.tensor_text.specs.Answers.{Writes}
 
 cut_longer : (a b : Option (List ℕ)) (xs ys : List ℕ) → AppendsPrefix a b xs → AppendsPrefix a b (xs ++ ys)
 cut_longer a b xs ys p = (p.0, omega (arith, p.1, length-append xs ys), rw (take-append-le p.0 xs ys p.1) p.2)
@@ -17,13 +16,13 @@ cut_behind : (a b c : Option (List ℕ)) (xs ys : List ℕ) → Appends a b xs �
 cut_behind a b c xs ys p q = subst (λ w. AppendsPrefix a c (xs ++ w)) (append-nil ys) (AppendsPrefix-more a b c xs ys [] p q)
 
 -- a part of a text is a part of a longer one
-pub cut_first : {T E : Type 0} (xs ys : List ℕ) (a b : Option (List ℕ)) (m n : ℕ) (e : E) → Writes {T = T} xs a b m n (Err e) → Writes {T = T} (xs ++ ys) a b m n (Err e)
-cut_first xs ys a b m n e w = record { written = tt; cut = cut_longer a b xs ys w.cut; cause = w.cause }
+pub cut_first : {T E : Type 0} (xs ys : List ℕ) (a b : Taking) (e : E) → Writes {T = T} xs a b (Err e) → Writes {T = T} (xs ++ ys) a b (Err e)
+cut_first xs ys a b e w = record { written = tt; prefix = cut_longer a.taken b.taken xs ys w.prefix; cause = w.cause }
 
 -- what is written behind a text
-pub written_behind : {T E : Type 0} (xs ys : List ℕ) (a b c : Option (List ℕ)) (l m n : ℕ) (r : Result T E) → Appends a b xs → m ≡ l → Writes ys b c m n r → Writes (xs ++ ys) a c l n r
-written_behind xs ys a b c l m n (Ok x) p e w = record { written = Appends-more a b c xs ys p w.written; cut = tt; cause = rw (← e) w.cause }
-written_behind xs ys a b c l m n (Err x) p e w = record { written = tt; cut = cut_behind a b c xs ys p w.cut; cause = rw (← e) w.cause }
+pub written_behind : {T E : Type 0} (xs ys : List ℕ) (a b c : Taking) (r : Result T E) → Appends a.taken b.taken xs → b.faults ≡ a.faults → Writes ys b c r → Writes (xs ++ ys) a c r
+written_behind xs ys a b c (Ok x) p e w = record { written = Appends-more a.taken b.taken c.taken xs ys p w.written; prefix = tt; cause = rw (← e) w.cause }
+written_behind xs ys a b c (Err x) p e w = record { written = tt; prefix = cut_behind a.taken b.taken c.taken xs ys p w.prefix; cause = rw (← e) w.cause }
 
 pub each-split : (f : ℕ → List ℕ) (a m n : ℕ) → each_from f a (m + n) ≡ each_from f a m ++ each_from f (a + m) n
 unfolding each_from
@@ -57,23 +56,23 @@ each-parts f a n k h l =
     (ap (λ m. each_from f m (1 + (a + n - (k + 1)))) s ∙ each-split f k 1 (a + n - (k + 1)) ∙ ap (λ w. w ++ each_from f (k + 1) (a + n - (k + 1))) (each-one f k))
 
 -- a piece is cut, behind whole ones
-pub each_cut : {T E : Type 0} (f : ℕ → List ℕ) (p n k : ℕ) (a b c : Option (List ℕ)) (l m o : ℕ) (e : E) → p ≤ k → k < p + n
-    → Appends a b (each_from f p (k - p)) → m ≡ l → Writes {T = T} (f k) b c m o (Err e) → Writes {T = T} (each_from f p n) a c l o (Err e)
-each_cut {T} f p n k a b c l m o e h i whole same w =
+pub each_cut : {T E : Type 0} (f : ℕ → List ℕ) (p n k : ℕ) (a b c : Taking) (e : E) → p ≤ k → k < p + n
+    → Appends a.taken b.taken (each_from f p (k - p)) → b.faults ≡ a.faults → Writes {T = T} (f k) b c (Err e) → Writes {T = T} (each_from f p n) a c (Err e)
+each_cut {T} f p n k a b c e h i whole same w =
     let behind = each_from f (k + 1) (p + n - (k + 1)) in
-    subst (λ x. Writes {T = T} x a c l o (Err e)) (sym (each-parts f p n k h i))
-    (written_behind (each_from f p (k - p)) (f k ++ behind) a b c l m o (Err e) whole same (cut_first (f k) behind b c m o e w))
+    subst (λ x. Writes {T = T} x a c (Err e)) (sym (each-parts f p n k h i))
+    (written_behind (each_from f p (k - p)) (f k ++ behind) a b c (Err e) whole same (cut_first (f k) behind b c e w))
 
 -- nothing is written
 pub nothing_written : (a : Option (List ℕ)) → Appends a a []
 nothing_written None = tt
 nothing_written (Some xs) = sym (append-nil xs)
 
-pub writes_nothing : {T E : Type 0} (a : Option (List ℕ)) (n : ℕ) (x : T) → Writes {E = E} [] a a n n (Ok x)
-writes_nothing a n x = record { written = nothing_written a; cut = tt; cause = record { later = omega arith; failed = tt; kept = refl } }
+pub writes_nothing : {T E : Type 0} (a : Taking) (x : T) → Writes {E = E} [] a a (Ok x)
+writes_nothing a x = record { written = nothing_written a.taken; prefix = tt; cause = record { later = omega arith; failed = tt; kept = refl } }
 
-pub has_written : {T E : Type 0} (text : List ℕ) (a b : Option (List ℕ)) (m n : ℕ) (x : T) → Appends a b text → n ≡ m → Writes {E = E} text a b m n (Ok x)
-has_written text a b m n x p e = record { written = p; cut = tt; cause = record { later = omega arith; failed = tt; kept = e } }
+pub has_written : {T E : Type 0} (text : List ℕ) (a b : Taking) (x : T) → Appends a.taken b.taken text → b.faults ≡ a.faults → Writes {E = E} text a b (Ok x)
+has_written text a b x p e = record { written = p; prefix = tt; cause = record { later = omega arith; failed = tt; kept = e } }
 
 -- one more piece
 pub each_written : (f : ℕ → List ℕ) (p k : ℕ) (a b c : Option (List ℕ)) → p ≤ k → Appends a b (each_from f p (k - p)) → Appends b c (f k) → Appends a c (each_from f p (k + 1 - p))
@@ -88,5 +87,5 @@ first_within B j = omega arith
 first_within C j = omega arith
 
 -- all pieces
-pub all_written : {T E : Type 0} (f : ℕ → List ℕ) (p n k : ℕ) (a b : Option (List ℕ)) (l m : ℕ) (x : T) → k - p ≡ n → Appends a b (each_from f p (k - p)) → m ≡ l → Writes {E = E} (each_from f p n) a b l m (Ok x)
-all_written f p n k a b l m x e w s = has_written (each_from f p n) a b l m x (subst (λ c. Appends a b (each_from f p c)) e w) s
+pub all_written : {T E : Type 0} (f : ℕ → List ℕ) (p n k : ℕ) (a b : Taking) (x : T) → k - p ≡ n → Appends a.taken b.taken (each_from f p (k - p)) → b.faults ≡ a.faults → Writes {E = E} (each_from f p n) a b (Ok x)
+all_written f p n k a b x e w s = has_written (each_from f p n) a b x (subst (λ c. Appends a.taken b.taken (each_from f p c)) e w) s

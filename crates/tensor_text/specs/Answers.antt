@@ -1,8 +1,8 @@
--- What reading a text from a source promises, and what writing a text does.
-use Rattle.std.specs.Prelude.{◌≡◌, ℕ, ◌≤◌, List, length, Result, Ok, Err, IsErrOf, OnOk, OnErr}
+-- What reading a text from a source promises.
+use Rattle.std.specs.Prelude.{◌≡◌, ℕ, ◌≤◌, List, length, Result, Ok, Err, IsErrOf}
 use Rattle.std.specs.declared.option.Option.{Option}
-use Rattle.std.specs.Io.KnownBytes.{Consumes, IsAtEnd, Appends}
-use Rattle.airy_io.specs.Causes.{Rose, HasCause, AppendsPrefix}
+use Rattle.std.specs.Io.KnownBytes.{Consumes, IsAtEnd}
+use Rattle.airy_io.specs.Causes.{Giving, Rose}
 use Rattle.sparse_tensor.specs.Entries.{Entries}
 use Rattle.tensor_text.specs.Grammar.{TextReading, reading_of, Read, Refused}
 use Rattle.tensor_text.specs.declared.refusals.TextErr.{TextErr}
@@ -34,22 +34,14 @@ Tells (Err texts.NoMemory) text new = Unit {0}
 
 -- Bytes were read off the source, at most 1,048,577, and the answer speaks of them. So a source that tells its bytes has
 -- more than 1,048,576 exactly where the answer is `TooLong`, or a fault or want of memory came first.
-pub record Reads (old new : Option (List ℕ)) (result : Result Entries TextErr) : Type 0 where
+pub record Reads (old new : Giving) (result : Result Entries TextErr) : Type 0 where
   pub text : List ℕ
-  pub consumed : Consumes old new text
+  pub consumed : Consumes old.left new.left text
   pub most : length text ≤ 1048577
-  pub tells : Tells result text new
+  pub tells : Tells result text new.left
 
 -- `ReadFault` comes only where the count of faults rose, and every other answer leaves it.
 pub record HasReadCause {T : Type 0} (before now : ℕ) (result : Result T TextErr) : Type 0 where
   pub later : before ≤ now
   pub failed : IsErrOf result texts.ReadFault → Rose before now
   pub kept : (IsErrOf result texts.ReadFault → ⊥) → now ≡ before
-
--- ---- what writing says
-
--- A text was taken whole, or a part of it and then the sink failed.
-pub record Writes {T E : Type 0} (text : List ℕ) (old new : Option (List ℕ)) (before now : ℕ) (result : Result T E) : Type 0 where
-  pub written : OnOk result (Appends old new text)
-  pub cut : OnErr result (AppendsPrefix old new text)
-  pub cause : HasCause before now result

@@ -18,8 +18,8 @@ const MOST_BYTES: usize = 1_048_576;
 /// grammar refuses the text, with its first refused line and the first check that fails there, after the source was read
 /// to its end.
 pub fn read_tensors<S: Source>(alloc: Global, src: &mut S) -> Result<Tensors, TextErr>
-    ensures read { Reads (S.left src.old) (S.left src.new) result }
-    ensures cause { HasReadCause (S.faults src.old) (S.faults src.new) result }
+    ensures read { Reads (S.state src.old) (S.state src.new) result }
+    ensures cause { HasReadCause (S.state src.old).faults (S.state src.new).faults result }
 {
     let text = read_bytes(alloc, src)?;
     read_text(alloc, text.as_slice())
@@ -27,8 +27,8 @@ pub fn read_tensors<S: Source>(alloc: Global, src: &mut S) -> Result<Tensors, Te
 
 /// The bytes of a source up to its end.
 fn read_bytes<S: Source>(alloc: Global, src: &mut S) -> Result<Vec<u8>, TextErr>
-    ensures read { BytesRead (λ v. v.items) (S.left src.old) (S.left src.new) result }
-    ensures cause { HasReadCause (S.faults src.old) (S.faults src.new) result }
+    ensures read { BytesRead (λ v. v.items) (S.state src.old).left (S.state src.new).left result }
+    ensures cause { HasReadCause (S.state src.old).faults (S.state src.new).faults result }
 {
     let mut room = [0u8; 4096];
     let mut text = Vec::new(alloc);

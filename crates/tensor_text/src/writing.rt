@@ -1,44 +1,38 @@
-ghost use Rattle.std.specs.Prelude.{◌≡◌, ◌≤◌, ◌<◌, ◌+◌, ◌++◌, codes, length, take, OnOk, OnErr};
+ghost use Rattle.std.specs.Prelude.{◌≡◌, ◌≤◌, ◌<◌, ◌+◌, ◌++◌, codes, length};
 ghost use Rattle.airy_math.specs.Rational.{ℚ};
 ghost use Rattle.airy_math.specs.declared.Shape.TheVariants.{All};
 ghost use Rattle.frac128.specs.Fraction.{fraction_text};
 ghost use Rattle.sparse_tensor.specs.Entries.{Entry};
 ghost use Rattle.tensor_text.specs.Canonical.{spaced, place_text, index_text, dim_text, canonical_text};
 ghost use Rattle.tensor_text.specs.Pieces.{place_piece, row_piece, plane_piece, places_piece, index_piece, indices_piece};
-ghost use Rattle.std.specs.Io.KnownBytes.{Appends};
-ghost use Rattle.airy_io.specs.Causes.{HasCause, AppendsPrefix};
+ghost use Rattle.airy_io.specs.Causes.{Writes};
 ghost use Rattle.tensor_text.specs.Grammar.{reading_of, Read};
-ghost use Rattle.tensor_text.specs.Answers.{Writes};
 
 use crate::letters::Letter;
-use airy_index::{put, put_number};
-use airy_io::{Failed, Sink, write_all};
+use airy_io::{Failed, LineText, Sink, write_all};
 use frac128::Frac;
 use sparse_tensor::Tensors;
 
-/// Writes a space and a number into a line, and answers the place behind it.
-fn put_spaced(line: &mut [u8], at: usize, n: u8) -> usize
-    requires { at + 11 ≤ length line.old }
-    ensures short { result ≤ at + 11 }
-    ensures text { take result line.new ≡ take at line.old ++ spaced n }
-    ensures len { length line.new ≡ length line.old }
+/// Puts a space and a number at the end of a line.
+fn put_spaced(line: &mut LineText, n: u8)
+    requires { length line.old + 11 ≤ 512 }
+    ensures text { line.new ≡ line.old ++ spaced n }
+    ensures short { length line.new ≤ length line.old + 11 }
 {
-    let end = put(line, at, b" ");
-    put_number(line, end, n as u32)
+    line.put(b" ");
+    line.put_number(n as u32);
 }
 
-/// Writes a space, a value and a line feed into a line, and answers the place behind it.
-fn put_value(line: &mut [u8], at: usize, v: Frac) -> usize
-    requires { at + 86 ≤ length line.old }
-    ensures within { result ≤ length line.new }
-    ensures text { take result line.new ≡ take at line.old ++ codes " " ++ fraction_text v ++ codes "\n" }
-    ensures len { length line.new ≡ length line.old }
+/// Puts a space, a value and a line feed at the end of a line.
+fn put_value(line: &mut LineText, v: Frac)
+    requires { length line.old + 86 ≤ 512 }
+    ensures { line.new ≡ line.old ++ codes " " ++ fraction_text v ++ codes "\n" }
 {
     let mut text = [0u8; 84];
     let size = v.write_into(&mut text);
-    let mut end = put(line, at, b" ");
-    end = put(line, end, &text[..size]);
-    put(line, end, b"\n")
+    line.put(b" ");
+    line.put(&text[..size]);
+    line.put(b"\n");
 }
 
 /// Writes the line of an entry of A, B or C.
@@ -51,39 +45,39 @@ fn write_entry<W: Sink>(
     v: Frac,
     out: &mut W,
 ) -> Result<(), Failed>
-    ensures { Writes (place_text letter (record { i = i; j = j; k = k; v = v })) (W.taken out.old) (W.taken out.new) (W.faults out.old) (W.faults out.new) result }
+    ensures { Writes (place_text letter (record { i = i; j = j; k = k; v = v })) (W.state out.old) (W.state out.new) result }
 {
-    let mut line = [0u8; 128];
-    let mut end = put(&mut line, 0, letter.text());
-    end = put_spaced(&mut line, end, i);
-    end = put_spaced(&mut line, end, j);
-    end = put_spaced(&mut line, end, k);
-    end = put_value(&mut line, end, v);
-    write_all(out, &line[..end])
+    let mut line = LineText::new();
+    line.put(letter.text());
+    put_spaced(&mut line, i);
+    put_spaced(&mut line, j);
+    put_spaced(&mut line, k);
+    put_value(&mut line, v);
+    write_all(out, line.bytes())
 }
 
 /// Writes the line of an entry of D.
 #[tactic(auto, unfolding(crate::specs::Canonical::index_text))]
 fn write_index_entry<W: Sink>(i: u8, v: Frac, out: &mut W) -> Result<(), Failed>
-    ensures { Writes (index_text (i, v)) (W.taken out.old) (W.taken out.new) (W.faults out.old) (W.faults out.new) result }
+    ensures { Writes (index_text (i, v)) (W.state out.old) (W.state out.new) result }
 {
-    let mut line = [0u8; 128];
-    let mut end = put(&mut line, 0, b"D");
-    end = put_spaced(&mut line, end, i);
-    end = put_value(&mut line, end, v);
-    write_all(out, &line[..end])
+    let mut line = LineText::new();
+    line.put(b"D");
+    put_spaced(&mut line, i);
+    put_value(&mut line, v);
+    write_all(out, line.bytes())
 }
 
 /// Writes the dim line.
 #[tactic(auto, unfolding(crate::specs::Canonical::dim_text))]
 fn write_dim<W: Sink>(t: &Tensors, out: &mut W) -> Result<(), Failed>
-    ensures { Writes (dim_text t.now.dim) (W.taken out.old) (W.taken out.new) (W.faults out.old) (W.faults out.new) result }
+    ensures { Writes (dim_text t.now.dim) (W.state out.old) (W.state out.new) result }
 {
-    let mut line = [0u8; 16];
-    let mut end = put(&mut line, 0, b"dim");
-    end = put_spaced(&mut line, end, t.dim());
-    end = put(&mut line, end, b"\n");
-    write_all(out, &line[..end])
+    let mut line = LineText::new();
+    line.put(b"dim");
+    put_spaced(&mut line, t.dim());
+    line.put(b"\n");
+    write_all(out, line.bytes())
 }
 
 /// Writes the line of a place of A, B or C, where its value isn't 0.
@@ -96,7 +90,7 @@ fn write_place<W: Sink>(
     k: u8,
     out: &mut W,
 ) -> Result<(), Failed>
-    ensures { Writes (place_piece letter t.now i j k) (W.taken out.old) (W.taken out.new) (W.faults out.old) (W.faults out.new) result }
+    ensures { Writes (place_piece letter t.now i j k) (W.state out.old) (W.state out.new) result }
 {
     let v = letter.value(t, i, j, k);
     if v.is_zero() {
@@ -108,7 +102,7 @@ fn write_place<W: Sink>(
 /// Writes the entries of A, B or C with these first indices.
 fn write_row<W: Sink>(letter: Letter, t: &Tensors, i: u8, j: u8, out: &mut W) -> Result<(), Failed>
     requires { j < t.now.dim }
-    ensures { Writes (row_piece letter t.now i j) (W.taken out.old) (W.taken out.new) (W.faults out.old) (W.faults out.new) result }
+    ensures { Writes (row_piece letter t.now i j) (W.state out.old) (W.state out.new) result }
 {
     for k in letter.first(j)..t.dim() {
         write_place(letter, t, i, j, k, out)?;
@@ -118,7 +112,7 @@ fn write_row<W: Sink>(letter: Letter, t: &Tensors, i: u8, j: u8, out: &mut W) ->
 
 /// Writes the entries of A, B or C with this first index.
 fn write_plane<W: Sink>(letter: Letter, t: &Tensors, i: u8, out: &mut W) -> Result<(), Failed>
-    ensures { Writes (plane_piece letter t.now i) (W.taken out.old) (W.taken out.new) (W.faults out.old) (W.faults out.new) result }
+    ensures { Writes (plane_piece letter t.now i) (W.state out.old) (W.state out.new) result }
 {
     for j in 0..t.dim() {
         write_row(letter, t, i, j, out)?;
@@ -128,7 +122,7 @@ fn write_plane<W: Sink>(letter: Letter, t: &Tensors, i: u8, out: &mut W) -> Resu
 
 /// Writes the entries of A, B or C.
 fn write_places<W: Sink>(letter: Letter, t: &Tensors, out: &mut W) -> Result<(), Failed>
-    ensures { Writes (places_piece letter t.now) (W.taken out.old) (W.taken out.new) (W.faults out.old) (W.faults out.new) result }
+    ensures { Writes (places_piece letter t.now) (W.state out.old) (W.state out.new) result }
 {
     for i in 0..t.dim() {
         write_plane(letter, t, i, out)?;
@@ -139,7 +133,7 @@ fn write_places<W: Sink>(letter: Letter, t: &Tensors, out: &mut W) -> Result<(),
 /// Writes the line of an index of D, where its value isn't 0.
 #[tactic(auto, unfolding(crate::specs::Pieces::index_piece))]
 fn write_index<W: Sink>(t: &Tensors, i: u8, out: &mut W) -> Result<(), Failed>
-    ensures { Writes (index_piece t.now i) (W.taken out.old) (W.taken out.new) (W.faults out.old) (W.faults out.new) result }
+    ensures { Writes (index_piece t.now i) (W.state out.old) (W.state out.new) result }
 {
     let v = t.d(i);
     if v.is_zero() {
@@ -150,7 +144,7 @@ fn write_index<W: Sink>(t: &Tensors, i: u8, out: &mut W) -> Result<(), Failed>
 
 /// Writes the entries of D.
 fn write_indices<W: Sink>(t: &Tensors, out: &mut W) -> Result<(), Failed>
-    ensures { Writes (indices_piece t.now) (W.taken out.old) (W.taken out.new) (W.faults out.old) (W.faults out.new) result }
+    ensures { Writes (indices_piece t.now) (W.state out.old) (W.state out.new) result }
 {
     for i in 0..t.dim() {
         write_index(t, i, out)?;
@@ -160,9 +154,9 @@ fn write_indices<W: Sink>(t: &Tensors, out: &mut W) -> Result<(), Failed>
 
 /// Writes the header, the dim, the entries and `end`.
 fn write_text<W: Sink>(t: &Tensors, out: &mut W) -> Result<(), Failed>
-    ensures { Writes (canonical_text t.now) (W.taken out.old) (W.taken out.new) (W.faults out.old) (W.faults out.new) result }
+    ensures { Writes (canonical_text t.now) (W.state out.old) (W.state out.new) result }
 {
-    t.are_sound();
+    t.soundness_fact();
     write_all(out, b"airy 1\n")?;
     write_dim(t, out)?;
     write_places(Letter::A, t, out)?;
@@ -179,11 +173,9 @@ fn write_text<W: Sink>(t: &Tensors, out: &mut W) -> Result<(), Failed>
 pub fn write_tensors<W: Sink>(t: &Tensors, out: &mut W) -> Result<(), Failed>
     requires shape { t.now.shape ≡ All }
     requires dim { t.now.dim ≤ 32 }
-    ensures written { OnOk result (Appends (W.taken out.old) (W.taken out.new) (canonical_text t.now)) }
-    ensures prefix { OnErr result (AppendsPrefix (W.taken out.old) (W.taken out.new) (canonical_text t.now)) }
-    ensures cause { HasCause (W.faults out.old) (W.faults out.new) result }
+    ensures written { Writes (canonical_text t.now) (W.state out.old) (W.state out.new) result }
     ensures back { reading_of (canonical_text t.now) ≡ Read t.now }
 {
-    t.are_sound();
+    t.soundness_fact();
     write_text(t, out)
 }

@@ -8,7 +8,7 @@ unfolding looked_up
 check_all-requires-clause-most c = c.requires.most
 
 pub returns-clause-closed : goal.returns-clause-closed
-returns-clause-closed c = λ e. closed_law (looked_up c.args.t.now) c.args.places c.are_sound.ensures.symmetric (sym c.check_all.ensures ∙ e)
+returns-clause-closed c = λ e. closed_law (looked_up c.args.t.now) c.args.places c.soundness_fact.ensures.symmetric (sym c.check_all.ensures ∙ e)
 
 pub returns-clause-differs : goal.returns-clause-differs
-returns-clause-differs c = failure_law (looked_up c.args.t.now) c.args.places c.are_sound.ensures.symmetric c.requires.some _ c.check_all.ensures
+returns-clause-differs c = failure_law (looked_up c.args.t.now) c.args.places c.soundness_fact.ensures.symmetric c.requires.some _ c.check_all.ensures

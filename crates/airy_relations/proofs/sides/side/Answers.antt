@@ -7,7 +7,7 @@ use Rattle.airy_relations.proofs.sides.side.Goals as goal
 pub returns-in-AA : goal.returns-in-AA
 returns-in-AA c =
     let T = looked_up c.args.t.now in
-    ap Some c.a-entry.ensures ∙ side_AA T c.args.i c.args.j c.args.k c.args.l (rw c.a-entry.ensures at c.in_range.ensures.range) ∙ ap (λ r. obtained_side T r c.args.i c.args.j c.args.k c.args.l) (sym c.in-AA.is)
+    ap Some c.a-entry.ensures ∙ side_AA T c.args.i c.args.j c.args.k c.args.l (rw c.a-entry.ensures at c.range_fact.ensures.range) ∙ ap (λ r. obtained_side T r c.args.i c.args.j c.args.k c.args.l) (sym c.in-AA.is)
 
 pub returns-in-D : goal.returns-in-D
 returns-in-D c =

@@ -1,9 +1,9 @@
 use Rattle.std.proofs.Common.{◌≡◌, ◌<◌, ◌≤◌, rules, arith, length}
 use Rattle.std.proofs.KnownBytes.{Appends-trans}
-use Rattle.airy_io.proofs.Prefixes.{AppendsPrefix-more, on_err}
+use Rattle.std.proofs.lemmas.Result.{err_from_is_err_and}
 use Rattle.amp_plan.specs.Plans.{keys_of, key_at}
 use Rattle.airyrun.specs.Tables.{rows_text}
-use Rattle.airyrun.proofs.RowLemmas.{rows-split, rows-more, rows-all}
+use Rattle.airyrun.proofs.RowLemmas.{rows-more, rows-cut, rows-done}
 use Rattle.airyrun.proofs.tables.write_rows.Goals as goal
 
 pub loop-rank-init : goal.loop-rank-init
@@ -19,15 +19,17 @@ loop-rank-preserved g c =
       kept = search rules;
     }
 
-pub returns-in_err-write_rank-clause-prefix : goal.returns-in_err-write_rank-clause-prefix
+pub returns-in_err-write_rank : goal.returns-in_err-write_rank
 unfolding key_at
-returns-in_err-write_rank-clause-prefix g c =
+returns-in_err-write_rank g c =
     let planned : c.loop-rank.rank < length (keys_of c.args.plan.now) = omega arith in
-    on_err c.from_residual.result
-    (rw (rows-split c.args.plan.now.tensors.letter c.args.plan.now.tensors.shape (keys_of c.args.plan.now) c.args.table.now c.loop-rank.rank planned c.requires)
-    (AppendsPrefix-more _ _ _ _ _ _ c.loop-rank.invariant.written c.in_err-write_rank.ensures.prefix))
+    let p = err_from_is_err_and c.from_residual.result c.from_residual.ensures.1 in
+    rw (p.1, p.2) (rows-cut c.args.plan.now.tensors.letter c.args.plan.now.tensors.shape (keys_of c.args.plan.now) c.args.table.now c.loop-rank.rank
+    (g.W.Sink.state c.args.out.now) (g.W.Sink.state c.loop-rank.out) (g.W.Sink.state c.write_rank.new.out) _ planned c.requires
+    c.loop-rank.invariant.written c.loop-rank.invariant.kept c.in_err-write_rank.ensures)
 
-pub returns-clause-written : goal.returns-clause-written
-returns-clause-written g c =
+pub returns : goal.returns
+returns g c =
     let done : length (keys_of c.args.plan.now) ≤ c.loop-rank.rank = omega arith in
-    rw (rows-all c.args.plan.now.tensors.letter c.args.plan.now.tensors.shape (keys_of c.args.plan.now) c.args.table.now c.loop-rank.rank done c.requires) at c.loop-rank.invariant.written
+    rows-done c.args.plan.now.tensors.letter c.args.plan.now.tensors.shape (keys_of c.args.plan.now) c.args.table.now c.loop-rank.rank
+    (g.W.Sink.state c.args.out.now) (g.W.Sink.state c.loop-rank.out) tt done c.requires c.loop-rank.invariant.written c.loop-rank.invariant.kept

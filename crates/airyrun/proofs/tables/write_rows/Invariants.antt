@@ -6,6 +6,6 @@ use Rattle.airyrun.proofs.tables.write_rows.Given as goal
 
 abbrev pub invariant-loop-rank : goal.invariant-loop-rank
 invariant-loop-rank g l = record {
-  written : Appends (g.W.Sink.taken l.initial.out) (g.W.Sink.taken l.out) (rows_text l.plan.tensors.letter l.plan.tensors.shape (take l.rank (keys_of l.plan)) (take l.rank l.table));
-  kept : g.W.Sink.faults l.out ≡ g.W.Sink.faults l.initial.out;
+  written : Appends (g.W.Sink.state l.initial.out).taken (g.W.Sink.state l.out).taken (rows_text l.plan.tensors.letter l.plan.tensors.shape (take l.rank (keys_of l.plan)) (take l.rank l.table));
+  kept : (g.W.Sink.state l.out).faults ≡ (g.W.Sink.state l.initial.out).faults;
 }

@@ -13,7 +13,7 @@ pub returns-then-room-lt0 : goal.returns-then-room-lt0
 returns-then-room-lt0 c = sym (room_is c.args.tensors.now.shape c.in-AtMost.law c.args.key.now c.room_of-room.result (sym c.shape.ensures ∙ c.in-AtMost.is) c.room_of-room.ensures.value ∙ natural_none c.room_of-room.result (omega (arith, ints)))
 
 pub room_of-room-requires : goal.room_of-room-requires
-room_of-room-requires c = subst IsSmallLaw (sym c.shape.ensures ∙ c.in-AtMost.is) c.are_sound.ensures.entries.law
+room_of-room-requires c = subst IsSmallLaw (sym c.shape.ensures ∙ c.in-AtMost.is) c.soundness_fact.ensures.entries.law
 
 pub overflow_cast-result : goal.overflow_cast-result
 overflow_cast-result c = omega (arith, ints, c.room_of-room.ensures.most)

@@ -19,7 +19,7 @@ add_lists-requires-clause-sorted c = subst (λ l. IsSortedFrom 0 256 (l ++ 0 ∷
 listed_is : (c : goal.After-add_lists) → keys_at (looked_up c.args.tensors.now) c.args.level c.args.genus ≡ found (record { genus = c.args.genus; dim = c.dim.result; window = c.of.result }) c.new-prefix.result.items (c.args.level + 2 - 2 * c.args.genus) 0 0
 unfolding looked_up
 listed_is c =
-    let most : c.args.tensors.now.dim ≤ 72 = c.are_sound.ensures.entries.most in
+    let most : c.args.tensors.now.dim ≤ 72 = c.soundness_fact.ensures.entries.most in
     keys_at-found (looked_up c.args.tensors.now) c.args.level c.args.genus (c.args.level + 2 - 2 * c.args.genus) c.of.result refl (omega arith) (omega arith) most (record { says = λ xs e h. ap (λ s. covers s (key_of c.args.genus xs)) (sym c.shape.ensures) ∙ c.of.ensures xs e h })
     ∙ ap (λ d. found (record { genus = c.args.genus; dim = d; window = c.of.result }) [] (c.args.level + 2 - 2 * c.args.genus) 0 0) (sym c.dim.ensures)
     ∙ ap (λ l. found (record { genus = c.args.genus; dim = c.dim.result; window = c.of.result }) l (c.args.level + 2 - 2 * c.args.genus) 0 0) (sym c.new-prefix.ensures)

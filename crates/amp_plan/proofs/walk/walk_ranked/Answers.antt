@@ -13,7 +13,7 @@ use Rattle.amp_plan.proofs.walk.walk_ranked.Goals.{in_default-via-in-0+in_defaul
 pub of-rest-requires : goal.of-rest-requires
 of-rest-requires g c =
     let list = c.as_slice-rest.ensures.value ∙ c.without-rest.ensures ∙ ap (remove c.args.pivot) c.idx.ensures in
-    omega (arith, ap length list, length-without c.args.pivot c.args.key.now.idx c.requires.pivot, c.is_key.ensures.room)
+    omega (arith, ap length list, length-without c.args.pivot c.args.key.now.idx c.requires.pivot, c.validity_fact.ensures.room)
 
 pub walk_b-requires-clause-room : goal.walk_b-requires-clause-room
 walk_b-requires-clause-room g c =

@@ -10,7 +10,7 @@ use Rattle.amp_terms.proofs.tests.value_at.Goals as goal
 pub names_ranks-requires-clause-planned : goal.names_ranks-requires-clause-planned
 names_ranks-requires-clause-planned c =
     let h : c.args.rank < length (keys_of c.args.plan.now) = omega (arith, c.len.ensures, c.if-rank-len.false) in
-    subst (IsPlanned (tensors_of c.args.plan.now) c.args.plan.now.bound) (sym c.key-key.ensures) (rank_planned c.args.plan.now c.args.rank c.lists_planned.ensures h)
+    subst (IsPlanned (tensors_of c.args.plan.now) c.args.plan.now.bound) (sym c.key-key.ensures) (rank_planned c.args.plan.now c.args.rank c.planned_fact.ensures h)
 
 pub names_ranks-requires-clause-pivot : goal.names_ranks-requires-clause-pivot
 names_ranks-requires-clause-pivot c =
@@ -20,7 +20,7 @@ names_ranks-requires-clause-pivot c =
 pub pivot_value-requires-clause-planned : goal.pivot_value-requires-clause-planned
 pivot_value-requires-clause-planned c =
     let h : c.args.rank < length (keys_of c.args.plan.now) = omega (arith, c.len.ensures, c.if-rank-len.false) in
-    subst (IsPlanned (tensors_of c.args.plan.now) c.args.plan.now.bound) (sym c.key-key.ensures) (rank_planned c.args.plan.now c.args.rank c.lists_planned.ensures h)
+    subst (IsPlanned (tensors_of c.args.plan.now) c.args.plan.now.bound) (sym c.key-key.ensures) (rank_planned c.args.plan.now c.args.rank c.planned_fact.ensures h)
 
 pub pivot_value-requires-clause-pivot : goal.pivot_value-requires-clause-pivot
 pivot_value-requires-clause-pivot c =

@@ -4,7 +4,8 @@ use Rattle.amp_plan.specs.Plans.{Planning, tensors_of, keys_of, key_at, rank_at}
 use Rattle.amp_terms.specs.declared.Outcome.{Outcome}
 use Rattle.amp_terms.specs.Tables.{full_table, first_without}
 use Rattle.series_law.specs.Check.{check, check_keys}
-use Rattle.constraint_check.specs.Ends.{outcomes_of, values_of, Tells, NamesOver}
+use Rattle.constraint_check.specs.Ends.{outcomes_of, values_of, verdict_from, Tells, NamesOver}
+use Rattle.constraint_check.specs.Pivots.{HoldsValues}
 use Rattle.constraint_check.proofs.FullTables.{IsFirstWithout, first_is, names_first, filled_at, values_pass, length-map_some}
 use Rattle.constraint_check.proofs.FirstOver.{first_over}
 use Rattle.constraint_check.proofs.keys.first_failure.Goals as goal
@@ -32,9 +33,11 @@ returns-in-Some-clause-over c =
     ∙ ap Some (first_over (tensors_of p) p.bound law (c.ranks.ensures (tensors_of p) p.bound) long r first)
 
 pub returns-clause-verdict : goal.returns-clause-verdict
-unfolding check full_table outcomes_of values_of keys_of
+unfolding check full_table outcomes_of values_of keys_of verdict_from
 returns-clause-verdict c =
     let p : Planning = c.args.plan.now in
+    let none : first_without c.args.table.now ≡ None = sym c.first_not_value.ensures.value ∙ c.in_default.is in
+    let values : HoldsValues p c.args.table.now = record { outcomes = c.requires.outcomes; values = none; long = c.requires.len } in
     subst (Tells p c.check_keys.result)
-    (sym (values_pass (outcomes_of p) 0 (check_keys (tensors_of p) (values_of p) (keys_of p)) (sym (ap first_without c.requires.outcomes) ∙ sym c.first_not_value.ensures.value ∙ c.in_default.is)))
+    (sym (c.requires.passed.passed values) ∙ sym (values_pass (outcomes_of p) 0 (check_keys (tensors_of p) (values_of p) (keys_of p)) (sym (ap first_without c.requires.outcomes) ∙ none)))
     c.check_keys.ensures.verdict

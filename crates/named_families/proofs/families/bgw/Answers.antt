@@ -13,8 +13,8 @@ pub bgw_cut-requires-clause-most : goal.bgw_cut-requires-clause-most
 unfolding top top_bgw
 bgw_cut-requires-clause-most c = let e = c.top_of.ensures in omega arith
 
-pub returns : goal.returns
+pub returns-clause-stands : goal.returns-clause-stands
 unfolding top
-returns c =
+returns-clause-stands c =
     let e : c.top_of.result + 1 - 1 ≡ top_bgw c.args.bound = omega (arith, c.top_of.ensures) in
-    subst (λ (m : ℕ). IfOk c.bgw_cut.result (λ t. StandsFor t (named.bgw m))) e c.bgw_cut.ensures
+    subst (λ (m : ℕ). IfOk c.bgw_cut.result (λ t. StandsFor t (named.bgw m))) e c.bgw_cut.ensures.stands

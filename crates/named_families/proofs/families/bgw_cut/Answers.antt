@@ -1,4 +1,4 @@
-use Rattle.std.proofs.Common.{ap}
+use Rattle.std.proofs.Common.{ap, ◌-◌}
 use Rattle.sparse_tensor.specs.Entries.{Entries, no_entries}
 use Rattle.named_families.specs.Exact.{exact_shape}
 use Rattle.named_families.proofs.ExactLaw.{small_bgw, stands_bgw}
@@ -27,4 +27,5 @@ fill_exact-requires-clause-no_d c = ap (λ (t : Entries). t.d) c.in_ok-tensors.e
 pub returns : goal.returns
 unfolding exact_shape
 returns c =
-    stands_bgw c.args.dim c.in_ok-tensors.tensors c.fill_exact.new.tensors c.requires.some c.in_ok-tensors.ensures c.in_ok-fill_exact.ensures
+    let stands = stands_bgw c.args.dim c.in_ok-tensors.tensors c.fill_exact.new.tensors c.requires.some c.in_ok-tensors.ensures c.in_ok-fill_exact.ensures in
+    record { stands = stands; closes = λ N h. c.bgw_closes.ensures c.fill_exact.new.tensors (c.args.dim - 1) N stands h }

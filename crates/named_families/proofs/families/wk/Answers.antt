@@ -13,8 +13,8 @@ pub wk_cut-requires-clause-most : goal.wk_cut-requires-clause-most
 unfolding top top_wk
 wk_cut-requires-clause-most c = let e = c.top_of.ensures in omega arith
 
-pub returns : goal.returns
+pub returns-clause-stands : goal.returns-clause-stands
 unfolding top
-returns c =
+returns-clause-stands c =
     let e : c.top_of.result + 1 - 1 ≡ top_wk c.args.bound = omega (arith, c.top_of.ensures) in
-    subst (λ (m : ℕ). IfOk c.wk_cut.result (λ t. StandsFor t (named.wk m))) e c.wk_cut.ensures
+    subst (λ (m : ℕ). IfOk c.wk_cut.result (λ t. StandsFor t (named.wk m))) e c.wk_cut.ensures.stands

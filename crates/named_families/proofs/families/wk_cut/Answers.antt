@@ -1,4 +1,4 @@
-use Rattle.std.proofs.Common.{◌∙◌}
+use Rattle.std.proofs.Common.{◌-◌, ◌∙◌}
 use Rattle.airy_math.specs.Named.{wk_shape}
 use Rattle.named_families.proofs.ExactLaw.{small_wk, graded_wk, wk_shape-exact, stands_wk}
 use Rattle.named_families.proofs.families.wk_cut.Goals as goal
@@ -17,4 +17,6 @@ fill_exact-requires-clause-shape c = c.in_ok-tensors.ensures.shape_is ∙ wk_sha
 
 pub returns : goal.returns
 unfolding wk_shape
-returns c = stands_wk c.args.dim c.in_ok-tensors.tensors c.fill_exact.new.tensors c.requires.some c.in_ok-tensors.ensures c.in_ok-fill_exact.ensures
+returns c =
+    let stands = stands_wk c.args.dim c.in_ok-tensors.tensors c.fill_exact.new.tensors c.requires.some c.in_ok-tensors.ensures c.in_ok-fill_exact.ensures in
+    record { stands = stands; closes = λ N h. c.wk_closes.ensures c.fill_exact.new.tensors (c.args.dim - 1) N stands h }

@@ -14,7 +14,7 @@ unless_wanting-requires c =
     let t = c.args.tensors.now in
     let below : c.args.shift < t.dim = omega arith in
     let free : putting_d t c.args.shift c.eighth.result ≡ Free =
-    ap (putting_d t c.args.shift) c.eighth.ensures ∙ free-d c.args.shift t c.are_sound.ensures.entries c.requires.shape c.requires.before below in
+    ap (putting_d t c.args.shift) c.eighth.ensures ∙ free-d c.args.shift t c.soundness_fact.ensures.entries c.requires.shape c.requires.before below in
     wanting c.put_d.result
     (λ h. let e = c.put_d.ensures.index.0 h in cc)
     (λ h. let e = c.put_d.ensures.grade.0 h in cc)
@@ -24,7 +24,7 @@ pub returns-clause-filled : goal.returns-clause-filled
 returns-clause-filled c =
     let t = c.args.tensors.now in
     let below : c.args.shift < t.dim = omega arith in
-    let free = free-d c.args.shift t c.are_sound.ensures.entries c.requires.shape c.requires.before below in
+    let free = free-d c.args.shift t c.soundness_fact.ensures.entries c.requires.shape c.requires.before below in
     on_ok_weaker c.unless_wanting.result
     (λ ok. subst (λ (u : Entries). FillsD c.args.shift u) (sym (at_ok c.put_d.result ok c.put_d.ensures.put ∙ ap (with_d t c.args.shift) c.eighth.ensures)) (next-d c.args.shift t c.requires.before free))
     c.unless_wanting.ensures

@@ -24,7 +24,7 @@ unless_wanting-requires c =
     let sum : c.args.i + c.args.j ≡ k + c.args.shift = omega arith in
     let value : c.whole-value.result ≡ whole (2 * c.args.j + 1) = unfold whole in search rules in
     let free : putting_b t c.args.i c.args.j k c.whole-value.result ≡ Free =
-    ap (putting_b t c.args.i c.args.j k) value ∙ free-b c.args.shift c.args.i c.args.j k t c.are_sound.ensures.entries c.requires.shape c.requires.before c.requires.first c.requires.second below sum in
+    ap (putting_b t c.args.i c.args.j k) value ∙ free-b c.args.shift c.args.i c.args.j k t c.soundness_fact.ensures.entries c.requires.shape c.requires.before c.requires.first c.requires.second below sum in
     wanting c.put_b.result
     (λ h. let e = c.put_b.ensures.index.0 h in cc)
     (λ h. let e = c.put_b.ensures.grade.0 h in cc)
@@ -37,7 +37,7 @@ returns-clause-filled c =
     let below : k < t.dim = omega arith in
     let sum : c.args.i + c.args.j ≡ k + c.args.shift = omega arith in
     let value : c.whole-value.result ≡ whole (2 * c.args.j + 1) = unfold whole in search rules in
-    let free = free-b c.args.shift c.args.i c.args.j k t c.are_sound.ensures.entries c.requires.shape c.requires.before c.requires.first c.requires.second below sum in
+    let free = free-b c.args.shift c.args.i c.args.j k t c.soundness_fact.ensures.entries c.requires.shape c.requires.before c.requires.first c.requires.second below sum in
     let filled = next-b c.args.shift c.args.i c.args.j k t c.requires.before sum free in
     on_ok_weaker c.unless_wanting.result
     (λ ok. subst (λ (u : Entries). FillsB c.args.shift c.args.i (c.args.j + 1) u) (sym (at_ok c.put_b.result ok c.put_b.ensures.put ∙ ap (with_b t c.args.i c.args.j k) value)) filled)

@@ -22,7 +22,7 @@ unless_wanting-requires c =
     let ordered : j ≤ k = omega arith in
     let sum : c.args.i ≡ j + k + c.args.shift + 1 = omega arith in
     let free : putting_c t c.args.i j k c.whole.result ≡ Free =
-    ap (putting_c t c.args.i j k) c.whole.ensures ∙ free-c c.args.shift c.args.i j k t c.are_sound.ensures.entries shape c.loop-j.invariant.0 below ordered sum in
+    ap (putting_c t c.args.i j k) c.whole.ensures ∙ free-c c.args.shift c.args.i j k t c.soundness_fact.ensures.entries shape c.loop-j.invariant.0 below ordered sum in
     wanting c.put_c.result
     (λ h. let e = c.put_c.ensures.index.0 h in cc)
     (λ h. let e = c.put_c.ensures.grade.0 h in cc)
@@ -39,7 +39,7 @@ loop-j-preserved c =
     let below : c.args.i < t.dim = omega arith in
     let ordered : j ≤ k = omega arith in
     let sum : c.args.i ≡ j + k + c.args.shift + 1 = omega arith in
-    let free = free-c c.args.shift c.args.i j k t c.are_sound.ensures.entries shape c.loop-j.invariant.0 below ordered sum in
+    let free = free-c c.args.shift c.args.i j k t c.soundness_fact.ensures.entries shape c.loop-j.invariant.0 below ordered sum in
     let left = at_ok c.put_c.result c.in_ok-unless_wanting.ensures c.put_c.ensures.put in (
       subst (λ (u : Entries). FillsC c.args.shift c.args.i (j + 1) u) (sym (left ∙ ap (with_c t c.args.i j k) c.whole.ensures)) (next-c c.args.shift c.args.i j k t c.loop-j.invariant.0 ordered sum free),
       subst (λ (u : Entries). u ≡ record c.args.tensors.now { c = u.c }) (sym left) (others-c t c.args.i j k c.whole.result ∙ ap (λ (u : Entries). record u { c = (with_c t c.args.i j k c.whole.result).c }) c.loop-j.invariant.1),

@@ -23,7 +23,7 @@ returns-in_default-clause-over c =
 
 pub unless_wanting-requires : goal.unless_wanting-requires
 unless_wanting-requires c =
-    let put = room-b c.args.most c.args.i c.args.j c.args.k c.args.tensors.now c.in-Some.value c.are_sound.ensures.entries c.requires.shape c.requires.before c.requires.first c.requires.second c.requires.third c.requires.reached in
+    let put = room-b c.args.most c.args.i c.args.j c.args.k c.args.tensors.now c.in-Some.value c.soundness_fact.ensures.entries c.requires.shape c.requires.before c.requires.first c.requires.second c.requires.third c.requires.reached in
     wanting c.put_b.result (λ h. put.allowed.inside (c.put_b.ensures.index.0 h)) (λ h. put.allowed.graded (c.put_b.ensures.grade.0 h)) (λ h. put.allowed.once (c.put_b.ensures.twice.0 h))
 
 pub returns-in_err-unless_wanting-clause-over : goal.returns-in_err-unless_wanting-clause-over
@@ -36,7 +36,7 @@ returns-clause-filled c =
     let odd : c.whole.result ≡ whole (2 * c.args.j + 1) = unfold whole in search rules in
     let number : obtained_number e ≡ Some c.index-numbers-e.result = held obtained_number (c.args.most + 1) c.args.numbers.now e c.index-numbers-e.result c.requires.numbers (omega arith) (omega arith) c.index-numbers-e.is in
     let some : obtained_product c.whole.result c.index-numbers-e.result ≡ Some c.in-Some.value = search rules in
-    let put = room-b c.args.most c.args.i c.args.j c.args.k c.args.tensors.now c.in-Some.value c.are_sound.ensures.entries c.requires.shape c.requires.before c.requires.first c.requires.second c.requires.third c.requires.reached in
+    let put = room-b c.args.most c.args.i c.args.j c.args.k c.args.tensors.now c.in-Some.value c.soundness_fact.ensures.entries c.requires.shape c.requires.before c.requires.first c.requires.second c.requires.third c.requires.reached in
     subst (λ (u : Entries). FillsWpB c.args.most c.args.i c.args.j (c.args.k + 1) u)
     (sym (at_ok c.put_b.result c.in_ok-unless_wanting.ensures c.put_b.ensures.put))
     (next-b c.args.most c.args.i c.args.j c.args.k c.args.tensors.now c.in-Some.value c.index-numbers-e.result put c.requires.before c.requires.reached c.requires.within number (ap (λ x. obtained_product x c.index-numbers-e.result) (sym odd) ∙ some))

@@ -24,7 +24,7 @@ unless_wanting-requires c =
     let k = c.loop-k.k in
     let dim : t.dim ≡ c.args.tensors.now.dim = ap (λ (u : Entries). u.dim) c.loop-k.invariant.1 in
     let shape : t.shape ≡ wp_shape = ap (λ (u : Entries). u.shape) c.loop-k.invariant.1 ∙ c.requires.shape in
-    let put = room-c c.args.most c.args.i c.args.j k t _ c.are_sound-in-loop-k.ensures.entries shape c.loop-k.invariant.0 (omega arith) (omega arith) (omega arith) c.loop-k.invariant.2 c.loop-k.invariant.3 in
+    let put = room-c c.args.most c.args.i c.args.j k t _ c.soundness_fact-in-loop-k.ensures.entries shape c.loop-k.invariant.0 (omega arith) (omega arith) (omega arith) c.loop-k.invariant.2 c.loop-k.invariant.3 in
     wanting c.put_c.result (λ h. put.allowed.inside (c.put_c.ensures.index.0 h)) (λ h. put.allowed.graded (c.put_c.ensures.grade.0 h)) (λ h. put.allowed.once (c.put_c.ensures.twice.0 h))
 
 pub loop-k-preserved : goal.loop-k-preserved
@@ -33,7 +33,7 @@ loop-k-preserved c =
     let k = c.loop-k.k in
     let dim : t.dim ≡ c.args.tensors.now.dim = ap (λ (u : Entries). u.dim) c.loop-k.invariant.1 in
     let shape : t.shape ≡ wp_shape = ap (λ (u : Entries). u.shape) c.loop-k.invariant.1 ∙ c.requires.shape in
-    let put = room-c c.args.most c.args.i c.args.j k t c.index-numbers-j.result c.are_sound-in-loop-k.ensures.entries shape c.loop-k.invariant.0 (omega arith) (omega arith) (omega arith) c.loop-k.invariant.2 c.loop-k.invariant.3 in
+    let put = room-c c.args.most c.args.i c.args.j k t c.index-numbers-j.result c.soundness_fact-in-loop-k.ensures.entries shape c.loop-k.invariant.0 (omega arith) (omega arith) (omega arith) c.loop-k.invariant.2 c.loop-k.invariant.3 in
     let within : c.args.j + k + 2 - c.args.i ≤ c.args.most = omega (arith, c.loop-k.invariant.3, c.saturating_sub-2.ensures, c.min-end.ensures) in
     let number : obtained_number (c.args.j + k + 2 - c.args.i) ≡ Some c.index-numbers-j.result = held obtained_number (c.args.most + 1) c.args.numbers.now (c.args.j + k + 2 - c.args.i) c.index-numbers-j.result c.requires.numbers (omega arith) (omega arith) c.index-numbers-j.is in
     let left = at_ok c.put_c.result c.in_ok-unless_wanting.ensures c.put_c.ensures.put ∙ ap (with_c t c.args.i c.args.j k) (sym c.index-numbers-j.is) in (

@@ -13,7 +13,7 @@ more n p h = grind arith
 pub unless_wanting-requires : goal.unless_wanting-requires
 unless_wanting-requires c =
     let t = c.args.tensors.now in
-    let free : putting_d t 0 c.twelfth.result ≡ Free = ap (putting_d t 0) c.twelfth.ensures ∙ free-d0 t c.are_sound.ensures.entries c.requires.shape c.requires.before in
+    let free : putting_d t 0 c.twelfth.result ≡ Free = ap (putting_d t 0) c.twelfth.ensures ∙ free-d0 t c.soundness_fact.ensures.entries c.requires.shape c.requires.before in
     wanting c.put_d.result
     (λ h. let e = c.put_d.ensures.index.0 h in cc)
     (λ h. let e = c.put_d.ensures.grade.0 h in cc)
@@ -22,7 +22,7 @@ unless_wanting-requires c =
 pub returns-then-dim-eq1-clause-filled : goal.returns-then-dim-eq1-clause-filled
 returns-then-dim-eq1-clause-filled c =
     let t = c.args.tensors.now in
-    let free = free-d0 t c.are_sound.ensures.entries c.requires.shape c.requires.before in
+    let free = free-d0 t c.soundness_fact.ensures.entries c.requires.shape c.requires.before in
     single-d t c.put_d.new.self c.requires.before free (at_ok c.put_d.result c.in_ok-unless_wanting.ensures c.put_d.ensures.put ∙ ap (with_d t 0) c.twelfth.ensures) (omega arith)
 
 pub returns-then-dim-eq1-clause-others : goal.returns-then-dim-eq1-clause-others
@@ -35,9 +35,9 @@ unless_wanting-requires-2 c =
     let t = c.args.tensors.now in
     let t' = c.put_d.new.self in
     let left : t' ≡ with_d t 0 (pos 1 /ℚ 12) = at_ok c.put_d.result c.in_ok-unless_wanting.ensures c.put_d.ensures.put ∙ ap (with_d t 0) c.twelfth.ensures in
-    let free = free-d0 t c.are_sound.ensures.entries c.requires.shape c.requires.before in
-    let two : 1 < t'.dim = more t'.dim c.are_sound-2.ensures.entries.some (λ e. c.if-dim-eq1.false (c.dim.ensures ∙ e)) in
-    let free' : putting_d t' 1 c.eighth.result ≡ Free = ap (putting_d t' 1) c.eighth.ensures ∙ free-d1 t t' c.are_sound-2.ensures.entries c.requires.shape c.requires.before free left two in
+    let free = free-d0 t c.soundness_fact.ensures.entries c.requires.shape c.requires.before in
+    let two : 1 < t'.dim = more t'.dim c.soundness_fact-2.ensures.entries.some (λ e. c.if-dim-eq1.false (c.dim.ensures ∙ e)) in
+    let free' : putting_d t' 1 c.eighth.result ≡ Free = ap (putting_d t' 1) c.eighth.ensures ∙ free-d1 t t' c.soundness_fact-2.ensures.entries c.requires.shape c.requires.before free left two in
     wanting c.put_d-2.result
     (λ h. let e = c.put_d-2.ensures.index.0 h in cc)
     (λ h. let e = c.put_d-2.ensures.grade.0 h in cc)
@@ -48,9 +48,9 @@ returns-clause-filled c =
     let t = c.args.tensors.now in
     let t' = c.put_d.new.self in
     let left : t' ≡ with_d t 0 (pos 1 /ℚ 12) = at_ok c.put_d.result c.in_ok-unless_wanting.ensures c.put_d.ensures.put ∙ ap (with_d t 0) c.twelfth.ensures in
-    let free = free-d0 t c.are_sound.ensures.entries c.requires.shape c.requires.before in
-    let two : 1 < t'.dim = more t'.dim c.are_sound-2.ensures.entries.some (λ e. c.if-dim-eq1.false (c.dim.ensures ∙ e)) in
-    let free' = free-d1 t t' c.are_sound-2.ensures.entries c.requires.shape c.requires.before free left two in
+    let free = free-d0 t c.soundness_fact.ensures.entries c.requires.shape c.requires.before in
+    let two : 1 < t'.dim = more t'.dim c.soundness_fact-2.ensures.entries.some (λ e. c.if-dim-eq1.false (c.dim.ensures ∙ e)) in
+    let free' = free-d1 t t' c.soundness_fact-2.ensures.entries c.requires.shape c.requires.before free left two in
     on_ok_weaker c.unless_wanting-2.result
     (λ ok. double-d t t' c.put_d-2.new.self c.requires.before free left free' (at_ok c.put_d-2.result ok c.put_d-2.ensures.put ∙ ap (with_d t' 1) c.eighth.ensures))
     c.unless_wanting-2.ensures

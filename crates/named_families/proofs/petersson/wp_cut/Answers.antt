@@ -61,14 +61,16 @@ pub returns-in_err-fill_wp_d-clause-over : goal.returns-in_err-fill_wp_d-clause-
 unfolding Names
 returns-in_err-fill_wp_d-clause-over c = let p = err_from_is_err_and c.from_residual-in_err-fill_wp_d.result c.from_residual-in_err-fill_wp_d.ensures.1 in rw (p.1, p.2) tt
 
-pub returns-clause-stands : goal.returns-clause-stands
-unfolding wp_shape
-returns-clause-stands c =
+pub returns : goal.returns
+unfolding wp_shape wp_refusal or_else
+returns c =
+    let stands =
     stands_wp c.args.dim c.args.most c.in_ok-tensors.tensors c.fill_wp_b.new.tensors c.fill_wp_c.new.tensors c.fill_wp_d.new.tensors c.in_ok-tensors.ensures
-    c.in_ok-fill_wp_b.ensures.others c.in_ok-fill_wp_b.ensures.filled c.in_ok-fill_wp_c.ensures.others c.in_ok-fill_wp_c.ensures.filled c.in_ok-fill_wp_d.ensures.others c.in_ok-fill_wp_d.ensures.filled
-
-pub returns-clause-obtained : goal.returns-clause-obtained
-unfolding wp_refusal or_else
-returns-clause-obtained c =
+    c.in_ok-fill_wp_b.ensures.others c.in_ok-fill_wp_b.ensures.filled c.in_ok-fill_wp_c.ensures.others c.in_ok-fill_wp_c.ensures.filled c.in_ok-fill_wp_d.ensures.others c.in_ok-fill_wp_d.ensures.filled in
     let entry = subst (λ d. entry_refusal d c.args.most ≡ None) c.in_ok-tensors.ensures.dim_is c.in_ok-fill_wp_b.ensures.obtained in
-    rw (c.in-Ok.ensures.obtained) entry
+    record {
+      stands = stands;
+      closes = λ N h p. c.wp_closes.ensures c.fill_wp_d.new.tensors c.args.dim c.args.most N stands h p;
+      obtained = rw (c.in-Ok.ensures.obtained) entry;
+      over = tt;
+    }

@@ -9,7 +9,7 @@ returns-then-is_err-clause-read g c =
     let room : length (take c.min-most.result c.loop-room.room) ≡ c.min-most.result = length-take-le c.min-most.result c.loop-room.room (omega arith) in
     record {
       text = c.loop-room.text.items ++ read;
-      consumed = Consumes-more (g.S.Source.left c.args.src.now) (g.S.Source.left c.loop-room.src) (g.S.Source.left c.read.new.self) c.loop-room.text.items read c.loop-room.invariant.consumed c.in-Ok.ensures.bytes.0;
+      consumed = Consumes-more (g.S.Source.state c.args.src.now).left (g.S.Source.state c.loop-room.src).left (g.S.Source.state c.read.new.self).left c.loop-room.text.items read c.loop-room.invariant.consumed c.in-Ok.ensures.bytes.0;
       most = omega (arith, length-append c.loop-room.text.items read, c.loop-room.text.ok.0, c.in-Ok.ensures.bound);
       tells = tt;
     }

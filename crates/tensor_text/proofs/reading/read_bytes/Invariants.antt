@@ -4,9 +4,9 @@ use Rattle.tensor_text.proofs.reading.read_bytes.Given as goal
 
 abbrev pub invariant-loop-room : goal.invariant-loop-room
 invariant-loop-room g l = record {
-  consumed : Consumes (g.S.Source.left l.fn.src) (g.S.Source.left l.src) l.text.items;
+  consumed : Consumes (g.S.Source.state l.fn.src).left (g.S.Source.state l.src).left l.text.items;
   most : vec_len l.text ≤ 1048577;
-  kept : g.S.Source.faults l.src ≡ g.S.Source.faults l.fn.src;
+  kept : (g.S.Source.state l.src).faults ≡ (g.S.Source.state l.fn.src).faults;
   room : length l.room ≡ 4096;
 }
 

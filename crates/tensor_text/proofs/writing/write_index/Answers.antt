@@ -11,7 +11,7 @@ unfolding index_piece
 returns-then-is_zero g c =
     let none : ((looked_up c.args.t.now).D c.args.i) ≡ 0ℚ = search rules in
     let test = zero_test ((looked_up c.args.t.now).D c.args.i) none in
-    rw test (writes_nothing (g.W.Sink.taken c.args.out.now) (g.W.Sink.faults c.args.out.now) tt)
+    rw test (writes_nothing (g.W.Sink.state c.args.out.now) tt)
 
 pub returns : goal.returns
 unfolding index_piece

@@ -10,7 +10,7 @@ unfolding place_piece
 returns-then-is_zero g c =
     let none : (value_in c.args.letter c.args.t.now c.args.i c.args.j c.args.k) ≡ 0ℚ = search rules in
     let test = zero_test (value_in c.args.letter c.args.t.now c.args.i c.args.j c.args.k) none in
-    rw test (writes_nothing (g.W.Sink.taken c.args.out.now) (g.W.Sink.faults c.args.out.now) tt)
+    rw test (writes_nothing (g.W.Sink.state c.args.out.now) tt)
 
 pub returns : goal.returns
 unfolding place_piece

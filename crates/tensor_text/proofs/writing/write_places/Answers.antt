@@ -7,7 +7,7 @@ use Rattle.tensor_text.proofs.writing.write_places.Goals as goal
 pub loop-i-init : goal.loop-i-init
 loop-i-init g c =
     record {
-      written = rw (none_at (plane_piece c.args.letter c.args.t.now) 0 0 refl) (nothing_written (g.W.Sink.taken c.args.out.now));
+      written = rw (none_at (plane_piece c.args.letter c.args.t.now) 0 0 refl) (nothing_written (g.W.Sink.state c.args.out.now).taken);
       within = omega arith;
       kept = search rules;
     }
@@ -16,12 +16,12 @@ pub returns-in_err-write_plane : goal.returns-in_err-write_plane
 unfolding places_piece
 returns-in_err-write_plane g c =
     let p = err_from_is_err_and c.from_residual.result c.from_residual.ensures.1 in
-    rw (p.1, p.2) (each_cut (plane_piece c.args.letter c.args.t.now) 0 c.args.t.now.dim c.loop-i.i (g.W.Sink.taken c.args.out.now) (g.W.Sink.taken c.loop-i.out) (g.W.Sink.taken c.write_plane.new.out) (g.W.Sink.faults c.args.out.now) (g.W.Sink.faults c.loop-i.out) (g.W.Sink.faults c.write_plane.new.out) _
+    rw (p.1, p.2) (each_cut (plane_piece c.args.letter c.args.t.now) 0 c.args.t.now.dim c.loop-i.i (g.W.Sink.state c.args.out.now) (g.W.Sink.state c.loop-i.out) (g.W.Sink.state c.write_plane.new.out) _
     (omega arith) (omega arith) c.loop-i.invariant.written c.loop-i.invariant.kept c.in_err-write_plane.ensures)
 
 pub loop-i-preserved : goal.loop-i-preserved
 loop-i-preserved g c = record {
-  written = each_written (plane_piece c.args.letter c.args.t.now) 0 c.loop-i.i (g.W.Sink.taken c.args.out.now) (g.W.Sink.taken c.loop-i.out) (g.W.Sink.taken c.write_plane.new.out) (omega arith) c.loop-i.invariant.written c.in_ok-write_plane.ensures.written;
+  written = each_written (plane_piece c.args.letter c.args.t.now) 0 c.loop-i.i (g.W.Sink.state c.args.out.now).taken (g.W.Sink.state c.loop-i.out).taken (g.W.Sink.state c.write_plane.new.out).taken (omega arith) c.loop-i.invariant.written c.in_ok-write_plane.ensures.written;
   within = omega arith;
   kept = search rules;
 }
@@ -29,4 +29,4 @@ loop-i-preserved g c = record {
 pub returns : goal.returns
 unfolding places_piece
 returns g c =
-    all_written (plane_piece c.args.letter c.args.t.now) 0 c.args.t.now.dim c.loop-i.i (g.W.Sink.taken c.args.out.now) (g.W.Sink.taken c.loop-i.out) (g.W.Sink.faults c.args.out.now) (g.W.Sink.faults c.loop-i.out) tt (omega arith) c.loop-i.invariant.written c.loop-i.invariant.kept
+    all_written (plane_piece c.args.letter c.args.t.now) 0 c.args.t.now.dim c.loop-i.i (g.W.Sink.state c.args.out.now) (g.W.Sink.state c.loop-i.out) tt (omega arith) c.loop-i.invariant.written c.loop-i.invariant.kept

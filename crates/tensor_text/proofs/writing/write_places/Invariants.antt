@@ -5,7 +5,7 @@ use Rattle.tensor_text.proofs.writing.write_places.Given as goal
 
 abbrev pub invariant-loop-i : goal.invariant-loop-i
 invariant-loop-i g l = record {
-  written : Appends (g.W.Sink.taken l.fn.out) (g.W.Sink.taken l.out) (each_from (plane_piece l.letter l.t) 0 (l.i - 0));
+  written : Appends (g.W.Sink.state l.fn.out).taken (g.W.Sink.state l.out).taken (each_from (plane_piece l.letter l.t) 0 (l.i - 0));
   within : l.i ≤ l.t.dim;
-  kept : g.W.Sink.faults l.out ≡ g.W.Sink.faults l.fn.out;
+  kept : (g.W.Sink.state l.out).faults ≡ (g.W.Sink.state l.fn.out).faults;
 }

@@ -47,7 +47,7 @@ place_among-requires-clause-there c =
     let covered : covers c.self.inside.tensors.shape c.args.key.now ≡ true = ap (λ s. covers s c.args.key.now) (sym c.shape.ensures) ∙ sym c.covers.ensures ∙ c.if-not-covers.false in
     let small : are_below c.self.inside.tensors.dim c.args.key.now.idx ≡ true = sym (c.are_below.ensures ∙ ap₂ are_below c.dim.ensures c.idx.ensures) ∙ c.if-not-are_below.false in
     subst (λ l. place_of c.args.key.now l < length l) (sym (c.keys.ensures ∙ c.self.invariant.keys))
-    ((c.planned_once.ensures (tensors_of p) p.bound).all c.args.key.now (planned_there p c.args.key.now c.is_key.ensures level covered small))
+    ((c.planned_once.ensures (tensors_of p) p.bound).all c.args.key.now (planned_there p c.args.key.now c.validity_fact.ensures level covered small))
 
 pub returns : goal.returns
 unfolding rank_at

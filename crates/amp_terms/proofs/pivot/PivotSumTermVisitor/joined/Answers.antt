@@ -1,5 +1,5 @@
-use Rattle.std.proofs.Common.{refl, sym, ap, ap₂, ◌∙◌, Some}
-use Rattle.airy_math.specs.Obtained.{both_obtained, obtained_sum, obtained_product, ◌⊛◌}
+use Rattle.std.proofs.Common.{refl, ap, ◌∙◌, Some}
+use Rattle.airy_math.specs.Obtained.{both_obtained, obtained_sum, ◌⊛◌}
 use Rattle.amp_terms.specs.Outcomes.{value_or_zero}
 use Rattle.amp_terms.specs.Pivots.{with_term, all_noted, noted, number_at}
 use Rattle.amp_plan.specs.Ranked.{ranks_of, obtained_at}
@@ -7,10 +7,10 @@ use Rattle.amp_terms.proofs.SummingLemmas.{same_summing}
 use Rattle.amp_terms.proofs.pivot.PivotSumTermVisitor.joined.Goals as goal
 
 pub returns-clause-step : goal.returns-clause-step
-unfolding with_term all_noted ranks_of obtained_at number_at ◌⊛◌
+unfolding with_term all_noted ranks_of obtained_at number_at
 returns-clause-step g c =
     let s = c.args.self.now in
     let value = c.number_of.ensures ∙ ap value_or_zero c.at-outcome.ensures.outcome in
     same_summing _ _ refl c.at-outcome.ensures.base c.at-outcome.ensures.same
     (c.noted-self.ensures ∙ ap (noted s.blocked c.args.rank) c.at-outcome.ensures.outcome)
-    (c.plus-self.ensures ∙ ap (both_obtained obtained_sum s.sum) (c.product.ensures ∙ ap (λ v. both_obtained obtained_product c.args.weight (Some v)) value))
+    (c.add_joined.ensures ∙ ap (λ v. both_obtained obtained_sum s.sum (c.args.weight ⊛ Some v)) value)

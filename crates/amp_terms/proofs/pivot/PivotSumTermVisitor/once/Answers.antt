@@ -1,6 +1,6 @@
-use Rattle.std.proofs.Common.{rules, refl, ap, ap₂, ◌∙◌, ◌≡◌, Some}
+use Rattle.std.proofs.Common.{refl, ap, ◌∙◌, Some}
 use Rattle.airy_math.specs.Rational.{whole}
-use Rattle.airy_math.specs.Obtained.{both_obtained, obtained_sum, obtained_product, ◌⊛◌}
+use Rattle.airy_math.specs.Obtained.{both_obtained, obtained_sum, ◌⊛◌}
 use Rattle.amp_terms.specs.Outcomes.{value_or_zero}
 use Rattle.amp_terms.specs.Pivots.{with_term, all_noted, noted, number_at}
 use Rattle.amp_plan.specs.Ranked.{ranks_of, obtained_at}
@@ -8,12 +8,10 @@ use Rattle.amp_terms.proofs.SummingLemmas.{same_summing}
 use Rattle.amp_terms.proofs.pivot.PivotSumTermVisitor.once.Goals as goal
 
 pub returns-clause-step : goal.returns-clause-step
-unfolding with_term all_noted ranks_of obtained_at number_at ◌⊛◌ both_obtained whole
+unfolding with_term all_noted ranks_of obtained_at number_at
 returns-clause-step g c =
     let s = c.args.self.now in
     let value = c.number_of.ensures ∙ ap value_or_zero c.at-outcome.ensures.outcome in
-    let times : c.whole.result ≡ whole c.args.times = search rules in
-    let weight = c.mul-weight.ensures ∙ ap (λ m. obtained_product m c.args.v) times in
     same_summing _ _ refl c.at-outcome.ensures.base c.at-outcome.ensures.same
     (c.noted-self.ensures ∙ ap (noted s.blocked c.args.rank) c.at-outcome.ensures.outcome)
-    (c.plus-self.ensures ∙ ap (both_obtained obtained_sum s.sum) (c.product.ensures ∙ ap₂ (λ w v. both_obtained obtained_product w (Some v)) weight value))
+    (c.add_once.ensures ∙ ap (λ v. both_obtained obtained_sum s.sum (Some (whole c.args.times) ⊛ Some c.args.v ⊛ Some v)) value)

@@ -29,7 +29,7 @@ put-requires c =
     let checks : checked (are_inside s.dim c.args.i c.args.j c.args.k) (is_zero c.args.v) (keeps_a s.shape c.args.i c.args.j c.args.k) ≡ Ok true =
     sym (c.admitted.ensures.value ∙ ap₂ (λ a g. checked a (is_zero c.args.v) g) c.are_inside-inside.ensures c.keeps_a.ensures) ∙ c.in_ok-admitted.was ∙ ap Ok c.if-branch.true in
     let ok = admitted (are_inside s.dim c.args.i c.args.j c.args.k) (is_zero c.args.v) (keeps_a s.shape c.args.i c.args.j c.args.k) checks in
-    let in_range = below s.dim c.args.i c.args.j c.args.k ok.inside_true in
+    let range_fact = below s.dim c.args.i c.args.j c.args.k ok.inside_true in
     omega arith
 
 pub invariant_of-self : goal.invariant_of-self
@@ -38,7 +38,7 @@ invariant_of-self c =
     let checks : checked (are_inside s.dim c.args.i c.args.j c.args.k) (is_zero c.args.v) (keeps_a s.shape c.args.i c.args.j c.args.k) ≡ Ok true =
     sym (c.admitted.ensures.value ∙ ap₂ (λ a g. checked a (is_zero c.args.v) g) c.are_inside-inside.ensures c.keeps_a.ensures) ∙ c.in_ok-admitted.was ∙ ap Ok c.if-branch.true in
     let ok = admitted (are_inside s.dim c.args.i c.args.j c.args.k) (is_zero c.args.v) (keeps_a s.shape c.args.i c.args.j c.args.k) checks in
-    parts-a s.dim s.shape s.letter s.a s.b s.c s.d c.args.i c.args.j c.args.k c.args.v c.put.new.self c.self.invariant ok c.admitted.ensures.in_range
+    parts-a s.dim s.shape s.letter s.a s.b s.c s.d c.args.i c.args.j c.args.k c.args.v c.put.new.self c.self.invariant ok c.admitted.ensures.range_fact
     (part_left (is_taken s.a.entries c.args.i (min c.args.j c.args.k) (max c.args.j c.args.k)) s.a (record s.a { entries = with_entry (record { i = c.args.i; j = min c.args.j c.args.k; k = max c.args.j c.args.k; v = c.args.v }) s.a.entries }) c.put.new.self c.put.result (subst (λ t. IfOk c.put.result (λ free. free ≡ not t)) (ap₂ (is_taken s.a.entries c.args.i) c.min.ensures c.max.ensures) c.put.ensures.free) (subst (λ (p : Places). IfOk c.put.result (λ free. c.put.new.self ≡ (if free then p else s.a))) (ap₂ (λ m n. record s.a { entries = with_entry (record { i = c.args.i; j = m; k = n; v = c.args.v }) s.a.entries }) c.min.ensures c.max.ensures) c.put.ensures.put) c.put.ensures.same)
 
 pub returns-then-branch : goal.returns-then-branch

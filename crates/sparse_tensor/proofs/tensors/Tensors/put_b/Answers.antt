@@ -29,7 +29,7 @@ put-requires c =
     let checks : checked (are_inside s.dim c.args.i c.args.j c.args.k) (is_zero c.args.v) (keeps_b s.shape c.args.i c.args.j c.args.k) ≡ Ok true =
     sym (c.admitted.ensures.value ∙ ap₂ (λ a g. checked a (is_zero c.args.v) g) c.are_inside-inside.ensures c.keeps_b.ensures) ∙ c.in_ok-admitted.was ∙ ap Ok c.if-branch.true in
     let ok = admitted (are_inside s.dim c.args.i c.args.j c.args.k) (is_zero c.args.v) (keeps_b s.shape c.args.i c.args.j c.args.k) checks in
-    let in_range = below s.dim c.args.i c.args.j c.args.k ok.inside_true in
+    let range_fact = below s.dim c.args.i c.args.j c.args.k ok.inside_true in
     record { first = omega arith; second = omega arith }
 
 pub invariant_of-self : goal.invariant_of-self
@@ -38,7 +38,7 @@ invariant_of-self c =
     let checks : checked (are_inside s.dim c.args.i c.args.j c.args.k) (is_zero c.args.v) (keeps_b s.shape c.args.i c.args.j c.args.k) ≡ Ok true =
     sym (c.admitted.ensures.value ∙ ap₂ (λ a g. checked a (is_zero c.args.v) g) c.are_inside-inside.ensures c.keeps_b.ensures) ∙ c.in_ok-admitted.was ∙ ap Ok c.if-branch.true in
     let ok = admitted (are_inside s.dim c.args.i c.args.j c.args.k) (is_zero c.args.v) (keeps_b s.shape c.args.i c.args.j c.args.k) checks in
-    parts-b s.dim s.shape s.letter s.a s.b s.c s.d c.args.i c.args.j c.args.k c.args.v c.put.new.self c.self.invariant ok c.admitted.ensures.in_range
+    parts-b s.dim s.shape s.letter s.a s.b s.c s.d c.args.i c.args.j c.args.k c.args.v c.put.new.self c.self.invariant ok c.admitted.ensures.range_fact
     (part_left (is_taken s.b.entries c.args.i c.args.j c.args.k) s.b (record s.b { entries = with_entry (record { i = c.args.i; j = c.args.j; k = c.args.k; v = c.args.v }) s.b.entries }) c.put.new.self c.put.result c.put.ensures.free c.put.ensures.put c.put.ensures.same)
 
 pub returns-then-branch : goal.returns-then-branch

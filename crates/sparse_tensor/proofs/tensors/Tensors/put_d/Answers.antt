@@ -29,7 +29,7 @@ invariant_of-self c =
     let checks : checked (ltb c.args.i s.dim) (is_zero c.args.v) (keeps_d s.shape c.args.i) ≡ Ok true =
     sym (c.admitted.ensures.value ∙ ap (λ g. checked (ltb c.args.i s.dim) (is_zero c.args.v) g) c.keeps_d.ensures) ∙ c.in_ok-admitted.was ∙ ap Ok c.if-branch.true in
     let ok = admitted (ltb c.args.i s.dim) (is_zero c.args.v) (keeps_d s.shape c.args.i) checks in
-    parts-d s.dim s.shape s.letter s.a s.b s.c s.d c.args.i c.args.v c.put.new.self c.self.invariant ok c.admitted.ensures.in_range
+    parts-d s.dim s.shape s.letter s.a s.b s.c s.d c.args.i c.args.v c.put.new.self c.self.invariant ok c.admitted.ensures.range_fact
     (part_left (is_given s.d c.args.i) s.d (with_value c.args.i c.args.v s.d) c.put.new.self c.put.result c.put.ensures.free c.put.ensures.put c.put.ensures.same)
 
 pub returns-then-branch : goal.returns-then-branch

@@ -1,0 +1,6 @@
+pub mod ReplyLemmas
+pub mod PlaceLemmas
+pub mod SpeakLemmas
+pub mod TalkLemmas
+pub mod SessionLemmas
+pub mod SeatLemmas

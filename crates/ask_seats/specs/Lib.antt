@@ -1,0 +1,7 @@
+pub mod Replies
+pub mod Sessions
+pub mod Lines
+pub mod Asks
+pub mod Talks
+pub mod Counts
+pub mod Examples

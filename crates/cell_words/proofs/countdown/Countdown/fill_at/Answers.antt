@@ -1,0 +1,46 @@
+use Rattle.std.proofs.Common.{rules, ◌≡◌, ℕ, ◌+◌, List, [], ◌∷◌, ◌++◌, refl, sym, ap, ◌∙◌, subst, eq-eqb, ne_eqb, eqb, true}
+use Rattle.std.proofs.lemmas.Fn.{FoldsTo-push}
+use Rattle.cell_words.specs.Acts.{act_of, freed_by}
+use Rattle.cell_words.specs.Seats.{IsAtAct, view_of}
+use Rattle.cell_words.specs.declared.countdown.CountSeat.{CountSeat}
+use Rattle.cell_words.proofs.BookLemmas.{when, unless}
+use Rattle.cell_words.proofs.SeatLemmas.{freed_is}
+use Rattle.cell_words.proofs.countdown.Countdown.fill_at.Goals.{then-sign-eq1, else-sign-eq1}
+use Rattle.cell_words.proofs.countdown.Countdown.fill_at.Goals as goal
+
+pub loop-i-init : goal.loop-i-init
+loop-i-init g c =
+    let b = c.args.self.now in let s = c.mark.new.seat in let r : ℕ = c.args.rank in
+    let freed : freed_by (view_of s) r ≡ [] = freed_is b s (act_of r 4 true 0 []) c.mark.ensures.act in
+    let same = ap (λ (t : CountSeat). (view_of t).seen) c.computed-outcome.ensures.seat in record {
+      act = subst (λ l. IsAtAct b s (act_of r 4 true 0 l)) (sym freed) c.mark.ensures.act;
+      seen = c.mark.ensures.seen ∙ ap (λ l. l ++ r ∷ []) (c.write-4.ensures.seen ∙ c.write-3.ensures.seen ∙ c.write-2.ensures.seen ∙ c.write.ensures.seen ∙ same);
+      others = search rules;
+      kept = search rules;
+      told = rw freed refl;
+    }
+
+pub loop-i-preserved : goal.loop-i-preserved
+loop-i-preserved g c =
+    let i = c.loop-i.invariant in let r : ℕ = c.args.rank in
+    let was : List ℕ = freed_by (view_of c.loop-i.seat) r in
+    let act = c.sign.ensures.act was i.act in
+    let freed = freed_is c.args.self.now c.sign.new.seat _ act in
+    let now = subst (λ l. IsAtAct c.args.self.now c.sign.new.seat (act_of r 4 true (c.loop-i.i + 1) l)) (sym freed) act in
+    let kept = c.sign.ensures.kept in
+    elim c.if-sign-eq1.branch [
+      | then-sign-eq1 w ↦ record {
+        act = now;
+        seen = c.sign.ensures.seen ∙ i.seen;
+        others = c.sign.ensures.others ∙ i.others;
+        kept = (kept.0 ∙ i.kept.0, kept.1 ∙ i.kept.1, kept.2 ∙ i.kept.2);
+        told = rw (freed ∙ when (eqb c.sign.result 1) (was ++ _ ∷ []) was (eq-eqb c.sign.result 1 w.if-sign-eq1.true), w.ready-is) (FoldsTo-push _ c.args.ready was c.loop-i.ready _ w.ready.new.self i.told w.ready.ensures);
+      }
+      | else-sign-eq1 w ↦ record {
+        act = now;
+        seen = c.sign.ensures.seen ∙ i.seen;
+        others = c.sign.ensures.others ∙ i.others;
+        kept = (kept.0 ∙ i.kept.0, kept.1 ∙ i.kept.1, kept.2 ∙ i.kept.2);
+        told = rw (freed ∙ unless (eqb c.sign.result 1) (was ++ _ ∷ []) was (ne_eqb c.sign.result 1 w.if-sign-eq1.false), w.ready-is) i.told;
+      }
+    ]

@@ -1,0 +1,9 @@
+use Rattle.std.proofs.Common.{◌≡◌, ◌≤◌}
+use Rattle.std.specs.Prelude.{vec_len}
+use Rattle.cell_words.specs.Levels.{cells_to}
+use Rattle.cell_words.specs.LevelSeats.{IsFilling}
+use Rattle.cell_words.proofs.filler.level_alone.Given as goal
+
+abbrev pub invariant-loop-rank : goal.invariant-loop-rank
+invariant-loop-rank l =
+    IsFilling l.board (vec_len l.filler.outcomes) l.filler × (vec_len l.filler.outcomes ≡ l.rank) × (l.filler.published ≡ l.initial.filler.published) × (cells_to l.board.plan l.initial.filler.published ≤ l.rank) × (l.rank ≤ l.end)

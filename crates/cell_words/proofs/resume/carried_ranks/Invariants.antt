@@ -1,0 +1,11 @@
+use Rattle.std.proofs.Common.{◌≡◌, ◌≤◌}
+use Rattle.std.specs.Prelude.{vec_capacity}
+use Rattle.airy_math.specs.Sums.{keep, below}
+use Rattle.cell_words.specs.Resuming.{carries}
+use Rattle.cell_words.proofs.resume.carried_ranks.Given as goal
+
+abbrev pub invariant-loop-rank : goal.invariant-loop-rank
+invariant-loop-rank l = record {
+  ranks : l.ranks.items ≡ keep (carries l.table) (below l.rank);
+  room : l.fn.room ≤ vec_capacity l.ranks;
+}

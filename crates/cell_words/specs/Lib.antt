@@ -1,0 +1,13 @@
+pub mod Words
+pub mod Layout
+pub mod Looks
+pub mod Countdown
+pub mod Acts
+pub mod Seats
+pub mod Claims
+pub mod Deals
+pub mod Closings
+pub mod Resuming
+pub mod Levels
+pub mod LevelSeats
+pub mod Starts

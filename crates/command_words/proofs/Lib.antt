@@ -1,0 +1,3 @@
+mod ScriptLemmas
+mod StopLemmas
+mod FirstLaw

@@ -1,0 +1,199 @@
+-- Where a reader of the words stops.
+use Rattle.std.proofs.Common.{◌≡◌, ◌≢◌, ◌⊎◌, inl, inr, ℕ, ◌+◌, Bool, true, false, List, [], ◌∷◌, ◌++◌, length, refl, sym, ap, ◌∙◌, arith, Option, Some, None}
+use Rattle.std.specs.Prelude.{cond, codes}
+use Rattle.airy_math.specs.Keys.{key_of}
+use Rattle.airy_math.specs.declared.Family.TheVariants.{Wk}
+use Rattle.command_words.specs.declared.line.Line.{Line}
+use Rattle.command_words.specs.declared.line.Line.TheVariants.{Ask, Finish}
+use Rattle.command_words.specs.Words.{Kind, Named, Reading, Refused, number_of, kind_of_word, with_kind}
+use Rattle.command_words.specs.Scripts.{line_of_word}
+use Rattle.command_words.specs.Options.{Parted, Next, End, Broken, Mode, Options, Value, Dashed, Act, Take, Skip, Break, act, after, parted, option_act, ends, reads_kind, reads_number, script_by, fault_by, fault_of, workers_of, lines_of, line_then}
+use Rattle.command_words.specs.OptionExamples.{words_compute}
+
+-- ---- a reading by words, refused at a place
+
+-- no word is refused
+abbrev pub Fine : Reading → Type 0
+Fine r = (n : ℕ) → r ≢ Refused n
+
+fine_along : (x y : Reading) → x ≡ y → Fine y → Fine x
+fine_along x y e fine n h = fine n (sym e ∙ h)
+
+place_is : (a b : ℕ) → Refused a ≡ Refused b → a ≡ b
+place_is a b e = cc
+
+-- The words, the first of which has the number p, are refused with n: at a word that no words behind it mend, where other words in its
+-- place would do; or where more words would do.
+pub data Stops (G : List (List ℕ) → Reading) (p : ℕ) (ws : List (List ℕ)) (n : ℕ) : Type 0 where
+  wrong : (done : List (List ℕ)) (w : List ℕ) (rest : List (List ℕ)) → ws ≡ done ++ (w ∷ rest) → n ≡ p + length done
+      → (more : List (List ℕ)) → Fine (G (done ++ more)) → ((xs : List (List ℕ)) → G (done ++ (w ∷ xs)) ≡ Refused n) → Stops G p ws n
+  missing : n ≡ p + length ws → (more : List (List ℕ)) → Fine (G (ws ++ more)) → Stops G p ws n
+
+pub behind : (G H : List (List ℕ) → Reading) (p n : ℕ) (w : List ℕ) (ws : List (List ℕ)) → ((xs : List (List ℕ)) → H (w ∷ xs) ≡ G xs)
+    → Stops G (p + 1) ws n → Stops H p (w ∷ ws) n
+behind G H p n w ws e (wrong done v rest is place more fine all) =
+    wrong (w ∷ done) v rest (ap (λ x. w ∷ x) is) (omega (arith, place)) more (fine_along _ _ (e (done ++ more)) fine) (λ xs. e (done ++ (v ∷ xs)) ∙ all xs)
+behind G H p n w ws e (missing place more fine) = missing (omega (arith, place)) more (fine_along _ _ (e (ws ++ more)) fine)
+
+pub here : (G : List (List ℕ) → Reading) (p n : ℕ) (w : List ℕ) (ws more : List (List ℕ)) → Refused p ≡ Refused n → Fine (G more) → ((xs : List (List ℕ)) → G (w ∷ xs) ≡ Refused p) → Stops G p (w ∷ ws) n
+here G p n w ws more e fine all = let is = place_is p n e in wrong [] w ws refl (omega (arith, is)) more fine (λ xs. all xs ∙ e)
+
+pub at_end : (G : List (List ℕ) → Reading) (p n : ℕ) (more : List (List ℕ)) → Refused p ≡ Refused n → Fine (G more) → Stops G p [] n
+at_end G p n more e fine = let is = place_is p n e in missing (omega (arith, is)) more fine
+
+-- ---- readers
+
+-- from each mode some words are read to their end
+abbrev pub Lives : (Parted → Reading) → Type 0
+Lives R = (m : Mode) (p : ℕ) → (more : List (List ℕ)) × Fine (R (parted m p more))
+
+-- what a reader does where no word is left
+pub record Reads (R : Parted → Reading) : Type 0 where
+  pub broken : (p : ℕ) → R (Broken p) ≡ Refused p
+  pub ended : (p n : ℕ) → (R (End p n) ≡ Refused p) ⊎ Fine (R (End p n))
+  pub live : Lives R
+
+-- what it does at a word: it refuses it, or goes on as another reader
+abbrev pub Turn : (Parted → Reading) → ((Parted → Reading) → Type 0) → ℕ → List ℕ → Type 0
+Turn R Q p w = ((s : Parted) → R (Next p w s) ≡ Refused p) ⊎ ((S : Parted → Reading) × ((s : Parted) → R (Next p w s) ≡ S s) × Q S)
+
+abbrev pub Stopped : List (List ℕ) → (Parted → Reading) → Type 0
+Stopped ws R = (m : Mode) (p n : ℕ) → R (parted m p ws) ≡ Refused n → Stops (λ xs. R (parted m p xs)) p ws n
+
+stopped-nil : (R : Parted → Reading) → Reads R → Stopped [] R
+stopped-nil R reads (Options may k) p n e = by (reads.ended p k)
+  where
+    by : (R (End p k) ≡ Refused p) ⊎ Fine (R (End p k)) → Stops (λ xs. R (parted (Options may k) p xs)) p [] n
+    by (inl is) = let r = reads.live (Options may k) p in at_end _ p n r.0 (sym is ∙ e) r.1
+    by (inr fine) = absurd (fine n e)
+stopped-nil R reads Value p n e = let r = reads.live Value p in at_end _ p n r.0 (sym (reads.broken p) ∙ e) r.1
+stopped-nil R reads (Dashed k) p n e = by (reads.ended p k)
+  where
+    by : (R (End p k) ≡ Refused p) ⊎ Fine (R (End p k)) → Stops (λ xs. R (parted (Dashed k) p xs)) p [] n
+    by (inl is) = let r = reads.live (Dashed k) p in at_end _ p n r.0 (sym is ∙ e) r.1
+    by (inr fine) = absurd (fine n e)
+
+stopped-cons : (R : Parted → Reading) (w : List ℕ) (ws : List (List ℕ)) → Reads R → Stopped ws R → ((p : ℕ) → Turn R (Stopped ws) p w) → Stopped (w ∷ ws) R
+stopped-cons R w ws reads ih turn m p n e = by (act m w) refl
+  where
+    same : (a : Act) (xs : List (List ℕ)) → act m w ≡ a → R (parted m p (w ∷ xs)) ≡ R (after a p w (λ k. parted k (p + 1) xs))
+    same a xs is = ap (λ b. R (after b p w (λ k. parted k (p + 1) xs))) is
+
+    at : (k : Mode) → act m w ≡ Take k → Turn R (Stopped ws) p w → Stops (λ xs. R (parted m p xs)) p (w ∷ ws) n
+    at k is (inl not) = let r = reads.live m p in
+        here _ p n w ws r.0 (sym (same (Take k) ws is ∙ not (parted k (p + 1) ws)) ∙ e) r.1 (λ xs. same (Take k) xs is ∙ not (parted k (p + 1) xs))
+    at k is (inr (S, goes, next)) = behind (λ xs. S (parted k (p + 1) xs)) _ p n w ws (λ xs. same (Take k) xs is ∙ goes (parted k (p + 1) xs))
+        (next k (p + 1) n (sym (same (Take k) ws is ∙ goes (parted k (p + 1) ws)) ∙ e))
+
+    by : (a : Act) → act m w ≡ a → Stops (λ xs. R (parted m p xs)) p (w ∷ ws) n
+    by (Take k) is = at k is (turn p)
+    by (Skip k) is = behind (λ xs. R (parted k (p + 1) xs)) _ p n w ws (λ xs. same (Skip k) xs is) (ih k (p + 1) n (sym (same (Skip k) ws is) ∙ e))
+    by Break is = let r = reads.live m p in
+        here _ p n w ws r.0 (sym (same Break ws is ∙ reads.broken p) ∙ e) r.1 (λ xs. same Break xs is ∙ reads.broken p)
+
+abbrev pub AlwaysStopped : (Parted → Reading) → Type 0
+AlwaysStopped R = (ws : List (List ℕ)) → Stopped ws R
+
+turned : (R : Parted → Reading) (p : ℕ) (w : List ℕ) (ws : List (List ℕ)) → Turn R AlwaysStopped p w → Turn R (Stopped ws) p w
+turned R p w ws (inl not) = inl not
+turned R p w ws (inr (S, goes, next)) = inr (S, goes, next ws)
+
+pub stopped : (R : Parted → Reading) → Reads R → ((p : ℕ) (w : List ℕ) → Turn R AlwaysStopped p w) → AlwaysStopped R
+stopped R reads turn [] = stopped-nil R reads
+stopped R reads turn (w ∷ ws) = stopped-cons R w ws reads (stopped R reads turn ws) (λ p. turned R p w ws (turn p w))
+
+-- ---- words that lead on
+
+abbrev pub IsPlain : List ℕ → Type 0
+IsPlain w = (may : Bool) (n : ℕ) → option_act may n w ≡ Take (Options may n)
+
+lives_by : (R S : Parted → Reading) (w : List ℕ) → IsPlain w → ((p : ℕ) (s : Parted) → R (Next p w s) ≡ S s) → Lives S → Lives R
+lives_by R S w plain goes live (Options may n) p = let r = live (Options may n) (p + 1) in
+    (w ∷ r.0, fine_along _ _ (ap (λ a. R (after a p w (λ k. parted k (p + 1) r.0))) (plain may n) ∙ goes p _) r.1)
+lives_by R S w plain goes live Value p = let r = live (Options false 1) (p + 1 + 1) in
+    (codes "1" ∷ w ∷ r.0, fine_along _ _ (ap (λ a. R (after a (p + 1) w (λ k. parted k (p + 1 + 1) r.0))) (plain false 1) ∙ goes (p + 1) _) r.1)
+lives_by R S w plain goes live (Dashed n) p = let r = live (Dashed n) (p + 1) in (w ∷ r.0, fine_along _ _ (goes p _) r.1)
+
+-- ---- the places of the commands
+
+ends_live : (R : Parted → Reading) → ((p n : ℕ) → Fine (R (End p n))) → Lives R
+ends_live R fine (Options may n) p = ([], fine p n)
+ends_live R fine Value p = (codes "1" ∷ [], fine (p + 1) 1)
+ends_live R fine (Dashed n) p = ([], fine p n)
+
+pub ends_stopped : (f : ℕ → Reading) → ((n : ℕ) → Fine (f n)) → AlwaysStopped (ends f)
+ends_stopped f fine = stopped (ends f) (record { broken = λ p. refl; ended = λ p n. inr (fine n); live = ends_live (ends f) (λ p n. fine n) }) (λ p w. inl (λ s. refl))
+
+pub ends_lives : (f : ℕ → Reading) → ((n : ℕ) → Fine (f n)) → Lives (ends f)
+ends_lives f fine = ends_live (ends f) (λ p n. fine n)
+
+kind_turn : (f : Kind → Parted → Reading) → ((kind : Kind) → AlwaysStopped (f kind)) → (p : ℕ) (w : List ℕ) (o : Option Kind) → kind_of_word w ≡ o → Turn (reads_kind f) AlwaysStopped p w
+kind_turn f next p w None is = inl (λ s. ap (λ o. with_kind o p (λ kind. f kind s)) is)
+kind_turn f next p w (Some kind) is = inr (f kind, λ s. ap (λ o. with_kind o p (λ k. f k s)) is, next kind)
+
+pub kind_lives : (f : Kind → Parted → Reading) → ((kind : Kind) → Lives (f kind)) → Lives (reads_kind f)
+kind_lives f live = lives_by (reads_kind f) (f (Named Wk)) (codes "wk") (λ may n. refl) (λ p s. refl) (live (Named Wk))
+
+pub kind_stopped : (f : Kind → Parted → Reading) → ((kind : Kind) → AlwaysStopped (f kind)) → ((kind : Kind) → Lives (f kind)) → AlwaysStopped (reads_kind f)
+kind_stopped f next live = stopped (reads_kind f) (record { broken = λ p. refl; ended = λ p n. inl refl; live = kind_lives f live }) (λ p w. kind_turn f next p w (kind_of_word w) refl)
+
+number_turn : (is_word : List ℕ → Bool) (f : ℕ → Parted → Reading) → ((n : ℕ) → AlwaysStopped (f n)) → (p : ℕ) (w : List ℕ) (b : Bool) → is_word w ≡ b → Turn (reads_number is_word f) AlwaysStopped p w
+number_turn is_word f next p w false is = inl (λ s. ap (λ b. cond b (f (number_of w) s) (Refused p)) is)
+number_turn is_word f next p w true is = inr (f (number_of w), λ s. ap (λ b. cond b (f (number_of w) s) (Refused p)) is, next (number_of w))
+
+pub number_lives : (is_word : List ℕ → Bool) (f : ℕ → Parted → Reading) → is_word (codes "1") ≡ true → ((n : ℕ) → Lives (f n)) → Lives (reads_number is_word f)
+number_lives is_word f one live = lives_by (reads_number is_word f) (f 1) (codes "1") (λ may n. refl) (λ p s. ap (λ b. cond b (f 1 s) (Refused p)) one) (live 1)
+
+pub number_stopped : (is_word : List ℕ → Bool) (f : ℕ → Parted → Reading) → is_word (codes "1") ≡ true → ((n : ℕ) → AlwaysStopped (f n)) → ((n : ℕ) → Lives (f n)) → AlwaysStopped (reads_number is_word f)
+number_stopped is_word f one next live = stopped (reads_number is_word f) (record { broken = λ p. refl; ended = λ p n. inl refl; live = number_lives is_word f one live }) (λ p w. number_turn is_word f next p w (is_word w) refl)
+
+-- ---- scripts
+
+-- a script behind so much: whether a word stands before it, and whether `finish` does
+abbrev pub script_from : Bool → Bool → (ℕ → List Line → Reading) → Parted → Reading
+script_from some finished f s = script_by (fault_of some finished s) (f (workers_of s) (lines_of s))
+
+abbrev pub NeverRefuses : (ℕ → List Line → Reading) → Type 0
+NeverRefuses f = (n : ℕ) (lines : List Line) → Fine (f n lines)
+
+-- what it leads to with one more line before it
+abbrev pub with_line : Line → (ℕ → List Line → Reading) → ℕ → List Line → Reading
+with_line line f n lines = f n (line ∷ lines)
+
+at_word : (some finished : Bool) (f : ℕ → List Line → Reading) (p : ℕ) (w : List ℕ) (o : Option Line) → line_of_word w ≡ o → (s : Parted)
+    → script_from some finished f (Next p w s) ≡ script_by (fault_by o p finished (λ once. fault_of true once s)) (f (workers_of s) (line_then o (lines_of s)))
+at_word some finished f p w o is s = ap (λ x. script_by (fault_by x p finished (λ once. fault_of true once s)) (f (workers_of s) (line_then x (lines_of s)))) is
+
+an_ask : line_of_word (codes "ask:1:0") ≡ Some (Ask (key_of 1 (0 ∷ [])))
+unfolding words_compute
+an_ask = refl
+
+goes_on : (finished : Bool) (f : ℕ → List Line → Reading) → NeverRefuses f → Lives (script_from true finished f)
+goes_on finished f fine = ends_live (script_from true finished f) (λ p n. fine n [])
+
+pub script_lives : (some finished : Bool) (f : ℕ → List Line → Reading) → NeverRefuses f → Lives (script_from some finished f)
+script_lives true finished f fine = goes_on finished f fine
+script_lives false finished f fine = let line = Ask (key_of 1 (0 ∷ [])) in
+    lives_by (script_from false finished f) (script_from true finished (with_line line f)) (codes "ask:1:0") (λ may n. refl) (λ p s. at_word false finished f p (codes "ask:1:0") (Some line) an_ask s)
+    (goes_on finished (with_line line f) (λ n lines. fine n (line ∷ lines)))
+
+script_ended : (some finished : Bool) (f : ℕ → List Line → Reading) → NeverRefuses f → (p n : ℕ) → (script_from some finished f (End p n) ≡ Refused p) ⊎ Fine (script_from some finished f (End p n))
+script_ended true finished f fine p n = inr (fine n [])
+script_ended false finished f fine p n = inl refl
+
+script_turn : (ws : List (List ℕ)) (some finished : Bool) (f : ℕ → List Line → Reading)
+    → ((once : Bool) (g : ℕ → List Line → Reading) → NeverRefuses g → Stopped ws (script_from true once g)) → NeverRefuses f
+    → (p : ℕ) (w : List ℕ) (o : Option Line) → line_of_word w ≡ o → Turn (script_from some finished f) (Stopped ws) p w
+script_turn ws some finished f next fine p w None is = inl (at_word some finished f p w None is)
+script_turn ws some finished f next fine p w (Some (Ask key)) is = inr (script_from true finished (with_line (Ask key) f), at_word some finished f p w (Some (Ask key)) is, next finished (with_line (Ask key) f) (λ n lines. fine n (Ask key ∷ lines)))
+script_turn ws some false f next fine p w (Some Finish) is = inr (script_from true true (with_line Finish f), at_word some false f p w (Some Finish) is, next true (with_line Finish f) (λ n lines. fine n (Finish ∷ lines)))
+script_turn ws some true f next fine p w (Some Finish) is = inl (at_word some true f p w (Some Finish) is)
+
+script_reads : (some finished : Bool) (f : ℕ → List Line → Reading) → NeverRefuses f → Reads (script_from some finished f)
+script_reads some finished f fine = record { broken = λ p. refl; ended = script_ended some finished f fine; live = script_lives some finished f fine }
+
+pub script_stopped : (some finished : Bool) (f : ℕ → List Line → Reading) → NeverRefuses f → AlwaysStopped (script_from some finished f)
+script_stopped some finished f fine [] = stopped-nil (script_from some finished f) (script_reads some finished f fine)
+script_stopped some finished f fine (w ∷ ws) =
+    stopped-cons (script_from some finished f) w ws (script_reads some finished f fine) (script_stopped some finished f fine ws)
+    (λ p. script_turn ws some finished f (λ once g h. script_stopped true once g h ws) fine p w (line_of_word w) refl)

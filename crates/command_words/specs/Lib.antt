@@ -1,0 +1,8 @@
+-- What the words of a command line mean.
+pub mod Lines
+pub mod Words
+pub mod Scripts
+pub mod Options
+pub mod Asked
+pub mod OptionExamples
+pub mod FirstRefused

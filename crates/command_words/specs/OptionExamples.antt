@@ -1,0 +1,50 @@
+-- Readings of words, each by computation.
+use mathlib.Core.Path.{◌≡◌, refl}
+use Rattle.std.specs.Prelude.{ℕ, [], ◌∷◌, codes}
+use Rattle.airy_math.specs.declared.Family.TheVariants.{Wk}
+use Rattle.airy_math.specs.Keys.{key_of, euler, ordered, ordered_with, insert}
+use Rattle.command_words.specs.declared.line.Line.TheVariants.{Ask, Finish}
+use Rattle.command_words.specs.Words.{Named, Text, Table, Session, Refused}
+use Rattle.command_words.specs.Scripts.{line_of_word}
+use Rattle.command_words.specs.Options.{reading_of}
+
+-- To name this on an `unfolding` line opens all that reads words.
+unfoldable pub words_compute : ℕ → ℕ
+unfolding euler ordered ordered_with insert key_of line_of_word reading_of
+words_compute n = n
+
+none : reading_of [] ≡ Refused 1
+unfolding words_compute
+none = refl
+
+no_bound : reading_of (codes "table" ∷ codes "wk" ∷ []) ≡ Refused 3
+unfolding words_compute
+no_bound = refl
+
+no_kind : reading_of (codes "table" ∷ codes "xx" ∷ codes "1" ∷ []) ≡ Refused 2
+unfolding words_compute
+no_kind = refl
+
+many_workers : reading_of (codes "table" ∷ codes "wk" ∷ codes "2" ∷ codes "--workers" ∷ codes "17" ∷ []) ≡ Refused 5
+unfolding words_compute
+many_workers = refl
+
+workers_first : reading_of (codes "table" ∷ codes "--workers=8" ∷ codes "wk" ∷ codes "10" ∷ []) ≡ Table (Named Wk) 10 8
+unfolding words_compute
+workers_first = refl
+
+finish_twice : reading_of (codes "session" ∷ codes "wk" ∷ codes "1" ∷ codes "finish" ∷ codes "finish" ∷ []) ≡ Refused 5
+unfolding words_compute
+finish_twice = refl
+
+unstable : reading_of (codes "session" ∷ codes "wk" ∷ codes "1" ∷ codes "ask:0:0,0" ∷ []) ≡ Refused 4
+unfolding words_compute
+unstable = refl
+
+a_session : reading_of (codes "session" ∷ codes "wk" ∷ codes "3" ∷ codes "--workers=4" ∷ codes "finish" ∷ codes "ask:0:1,0,0,0" ∷ []) ≡ Session (Named Wk) 3 4 (Finish ∷ Ask (key_of 0 (0 ∷ 0 ∷ 0 ∷ 1 ∷ [])) ∷ [])
+unfolding words_compute
+a_session = refl
+
+dashes : reading_of (codes "table" ∷ codes "--" ∷ codes "-" ∷ codes "1" ∷ []) ≡ Table Text 1 2
+unfolding words_compute
+dashes = refl

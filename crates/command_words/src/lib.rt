@@ -1,0 +1,23 @@
+//! The words of a command line: what they ask for, or the first of them that breaks a rule.
+//!
+//! The words are read from left to right, and no memory is taken. Word 1 is the command. Of the later words, `--` makes all
+//! behind it plain, `--workers N` or `--workers=N` may stand once in the commands that list it, and the plain words fill the
+//! places of the command in order.
+#![tactic(auto)]
+
+mod asked;
+mod laws;
+mod line;
+mod numbers;
+mod options;
+mod scripts;
+#[cfg(test)]
+mod tests;
+mod words;
+
+pub use asked::{Asked, Kind};
+pub use laws::first_refused_word;
+pub use line::Line;
+pub use options::{Left, Mode};
+pub use scripts::lines_made;
+pub use words::read_words;

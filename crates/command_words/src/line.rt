@@ -1,0 +1,10 @@
+use airy_index::Key;
+
+/// A line of a session.
+#[derive(Drop)]
+pub enum Line {
+    /// Asks for what a key has.
+    Ask(Key),
+    /// Waits until every cell is filled.
+    Finish,
+}

@@ -1,0 +1,3 @@
+pub mod NextLemmas
+pub mod Lows
+pub mod CrewLemmas

@@ -1,0 +1,3 @@
+pub mod CertifiedLaw
+pub mod NumberLemmas
+pub mod UnreducedLemmas

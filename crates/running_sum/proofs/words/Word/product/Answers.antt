@@ -1,0 +1,28 @@
+use Rattle.std.proofs.Common.{rules, arith, ◌≡◌, ◌*◌, ◌+◌, to_z, of_z, ◌*ℤ◌, ap₂, ◌∙◌}
+use Rattle.std.specs.Int.{w64, w128}
+use Rattle.airy_math.specs.Obtained.{◌⊛◌}
+use Rattle.running_sum.proofs.NumberLemmas.{small_number}
+use Rattle.running_sum.proofs.UnreducedLemmas.{product_of, words_fit, size-shifted}
+use Rattle.running_sum.proofs.words.Word.product.Goals as goal
+
+pub invariant_of-result : goal.invariant_of-result
+invariant_of-result c =
+    let n = c.self.inside.num in
+    let m = c.o.inside.num in
+    let f = words_fit n m (search rules) (search rules) in
+    let fits = small_number (n *ℤ m) f in
+    let a : to_z w128 (of_z w128 (to_z w64 (of_z w64 n))) ≡ n = search rules in
+    let b : to_z w128 (of_z w128 (to_z w64 (of_z w64 m))) ≡ m = search rules in
+    let p : to_z w128 (of_z w128 (n *ℤ m)) ≡ n *ℤ m = search (rules, fits) in
+    rw (a, b, p) (record { num_fits = f; den_fits = size-shifted (c.self.inside.odd * c.o.inside.odd) c.bits.result (c.self.inside.twos + c.o.inside.twos) (search rules) (omega arith); twos_fit = (let i = c.self.invariant in let j = c.o.invariant in omega arith) })
+
+pub returns : goal.returns
+returns c =
+    let n = c.self.inside.num in
+    let m = c.o.inside.num in
+    let f = words_fit n m (search rules) (search rules) in
+    let fits = small_number (n *ℤ m) f in
+    let a : to_z w128 (of_z w128 (to_z w64 (of_z w64 n))) ≡ n = search rules in
+    let b : to_z w128 (of_z w128 (to_z w64 (of_z w64 m))) ≡ m = search rules in
+    let p : to_z w128 (of_z w128 (n *ℤ m)) ≡ n *ℤ m = search (rules, fits) in
+    rw (a, b, p) (product_of n m c.self.inside.odd c.o.inside.odd c.self.inside.twos c.o.inside.twos f (size-shifted (c.self.inside.odd * c.o.inside.odd) c.bits.result (c.self.inside.twos + c.o.inside.twos) (search rules) (omega arith)) ∙ ap₂ ◌⊛◌ c.self.view_is c.o.view_is)

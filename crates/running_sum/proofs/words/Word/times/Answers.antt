@@ -1,0 +1,18 @@
+use Rattle.std.proofs.Common.{rules, arith, ◌≡◌, ◌*◌, ◌+◌, ◌<◌, to_z, of_z, ◌*ℤ◌, ap₂, ◌∙◌}
+use Rattle.std.specs.Int.{w64}
+use Rattle.std.specs.Prelude.{◌^◌, FitsSigned}
+use Rattle.airy_math.specs.Obtained.{◌⊛◌}
+use Rattle.running_sum.proofs.UnreducedLemmas.{product_of, word_fits, size-shifted}
+use Rattle.running_sum.proofs.words.Word.times.Goals as goal
+
+pub returns : goal.returns
+returns c =
+    let n = c.self.inside.num *ℤ c.o.inside.num in
+    let o = c.self.inside.odd * c.o.inside.odd in
+    let t = c.self.inside.twos + c.o.inside.twos in
+    let en : to_z w64 (of_z w64 c.in_ok-checked_mul.field-0) ≡ n = search rules in
+    let eo : c.in_ok-checked_mul-2.field-0 ≡ o = search rules in
+    let f : FitsSigned w64 n = search rules in
+    let l = word_fits n f in
+    let h : o < 2 ^ 64 = search rules in
+    rw (en, eo) (product_of c.self.inside.num c.o.inside.num c.self.inside.odd c.o.inside.odd c.self.inside.twos c.o.inside.twos (omega arith) (size-shifted o 64 t h (omega arith)) ∙ ap₂ ◌⊛◌ c.self.view_is c.o.view_is)

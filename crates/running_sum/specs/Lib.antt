@@ -1,0 +1,4 @@
+pub mod Certified
+pub mod Kept
+pub mod Sizes
+pub mod Words
