@@ -1,4 +1,5 @@
 //! The sums and products of the crate frac128 in plain Rust, path by path.
+use std::fmt;
 
 /// A fraction in lowest terms; both numbers are below 2^127.
 #[derive(Clone, Copy, PartialEq, Eq, Debug)]
@@ -267,6 +268,16 @@ impl Frac {
         })
     }
 
+    /// The number num/2^twos, of which `frac.rs` makes no use.
+    #[allow(dead_code)]
+    pub fn over_twos(num: i128, twos: u32) -> Frac {
+        let shared = shared_twos(num.unsigned_abs(), twos);
+        Frac {
+            num: shifted_part(num, shared),
+            den: 1 << (twos - shared),
+        }
+    }
+
     pub fn parts(self) -> (i128, i128) {
         (self.num, self.den)
     }
@@ -295,5 +306,15 @@ impl Frac {
             num,
             den: den as i128,
         })
+    }
+}
+
+impl fmt::Display for Frac {
+    fn fmt(&self, f: &mut fmt::Formatter<'_>) -> fmt::Result {
+        write!(f, "{}", self.num)?;
+        if self.den == 1 {
+            return Ok(());
+        }
+        write!(f, "/{}", self.den)
     }
 }

@@ -1,163 +1,21 @@
 //! Plans, tables of amplitudes and the check of every pivot in plain Rust, timed as `table_main.rt.txt` times the proved ones.
-//! The words are a structure and a bound, as `wk 12`; `dense 4` makes a plan alone. It writes a line for each number.
+//! The words are a structure and a bound, as `wk 12`; `dense 4` makes a plan alone. It writes a line for each number. With `bulk SEED DIM X` or
+//! `volume G N` it writes what the built program does. Behind a first word `once` sums are reduced once, as the built program does it.
+mod commands;
+mod filling;
 mod fraction;
 mod plan;
+mod relations;
+mod sums;
 mod tensors;
+mod volume;
 
+use filling::{End, Outcome, check, filled};
 use fraction::Frac;
-use plan::{Key, Plan, Refusal, Visitor};
+use plan::{Plan, Refusal, Visitor};
 use std::time::Instant;
+use sums::{Steps, Sum, Unreduced};
 use tensors::Tensors;
-
-// ---- outcomes
-
-/// What a rank has: its value, or that a step left the range, or the least rank without a value that it needs.
-#[derive(Clone, Copy)]
-enum Outcome {
-    Value(Frac),
-    Over,
-    Blocked(u32),
-}
-
-/// The sum of the terms so far over outcomes of lower ranks, and the least rank so far without a value.
-struct PivotSum<'a> {
-    outcomes: &'a [Outcome],
-    blocked: Option<u32>,
-    sum: Option<Frac>,
-}
-
-impl PivotSum<'_> {
-    fn number(&mut self, rank: u32) -> Frac {
-        match self.outcomes[rank as usize] {
-            Outcome::Value(value) => value,
-            _ => {
-                self.blocked = Some(self.blocked.map_or(rank, |least| least.min(rank)));
-                Frac::whole(0)
-            }
-        }
-    }
-}
-
-fn plus(sum: Option<Frac>, term: Option<Frac>) -> Option<Frac> {
-    sum?.add(term?)
-}
-
-fn once_term(times: u8, v: Frac, value: Frac) -> Option<Frac> {
-    Frac::whole(times as i64).mul(v)?.mul(value)
-}
-
-fn twice_term(weight: Option<Frac>, ways: u64, left: Frac, right: Frac) -> Option<Frac> {
-    weight?.mul(Frac::whole(ways as i64))?.mul(left)?.mul(right)
-}
-
-impl Visitor for PivotSum<'_> {
-    fn alone(&mut self, v: Frac) {
-        self.sum = plus(self.sum, Some(v));
-    }
-
-    fn once(&mut self, times: u8, v: Frac, rank: u32) {
-        let value = self.number(rank);
-        self.sum = plus(self.sum, once_term(times, v, value));
-    }
-
-    fn joined(&mut self, weight: Option<Frac>, rank: u32) {
-        let value = self.number(rank);
-        self.sum = plus(self.sum, weight.and_then(|weight| weight.mul(value)));
-    }
-
-    fn twice(&mut self, weight: Option<Frac>, ways: u64, left: u32, right: u32) {
-        let (left, right) = (self.number(left), self.number(right));
-        self.sum = plus(self.sum, twice_term(weight, ways, left, right));
-    }
-}
-
-/// The outcome of every rank, lowest first.
-#[inline(never)]
-fn filled(plan: &Plan) -> Vec<Outcome> {
-    let mut outcomes = Vec::with_capacity(plan.keys.len());
-    for key in &plan.keys {
-        let mut sum = PivotSum {
-            outcomes: &outcomes,
-            blocked: None,
-            sum: Some(Frac::whole(0)),
-        };
-        plan.walk(key, key.list()[0], &mut sum);
-        outcomes.push(match (sum.blocked, sum.sum) {
-            (Some(first), _) => Outcome::Blocked(first),
-            (None, Some(value)) => Outcome::Value(value),
-            (None, None) => Outcome::Over,
-        });
-    }
-    outcomes
-}
-
-// ---- the check of every pivot
-
-/// The sum of the terms so far over values of all ranks.
-struct ValueSum<'a> {
-    values: &'a [Frac],
-    sum: Option<Frac>,
-}
-
-impl Visitor for ValueSum<'_> {
-    fn alone(&mut self, v: Frac) {
-        self.sum = plus(self.sum, Some(v));
-    }
-
-    fn once(&mut self, times: u8, v: Frac, rank: u32) {
-        self.sum = plus(self.sum, once_term(times, v, self.values[rank as usize]));
-    }
-
-    fn joined(&mut self, weight: Option<Frac>, rank: u32) {
-        let value = self.values[rank as usize];
-        self.sum = plus(self.sum, weight.and_then(|weight| weight.mul(value)));
-    }
-
-    fn twice(&mut self, weight: Option<Frac>, ways: u64, left: u32, right: u32) {
-        let (left, right) = (self.values[left as usize], self.values[right as usize]);
-        self.sum = plus(self.sum, twice_term(weight, ways, left, right));
-    }
-}
-
-enum End {
-    NotValue(Key),
-    Over(Key, u8),
-    Orders(Key, u8),
-    Solution,
-}
-
-/// The values, or the first rank without one.
-fn all_values(outcomes: &[Outcome]) -> Result<Vec<Frac>, usize> {
-    let value = |(rank, outcome): (usize, &Outcome)| match outcome {
-        Outcome::Value(value) => Ok(*value),
-        _ => Err(rank),
-    };
-    outcomes.iter().enumerate().map(value).collect()
-}
-
-/// The first pivot above the least index whose sum isn't the key's value.
-#[inline(never)]
-fn check(plan: &Plan, outcomes: &[Outcome]) -> End {
-    let values = match all_values(outcomes) {
-        Ok(values) => values,
-        Err(rank) => return End::NotValue(plan.keys[rank]),
-    };
-    for (rank, key) in plan.keys.iter().enumerate() {
-        for pair in key.list().windows(2).filter(|pair| pair[0] != pair[1]) {
-            let mut sum = ValueSum {
-                values: &values,
-                sum: Some(Frac::whole(0)),
-            };
-            plan.walk(key, pair[1], &mut sum);
-            match sum.sum {
-                None => return End::Over(*key, pair[1]),
-                Some(sum) if sum == values[rank] => {}
-                Some(_) => return End::Orders(*key, pair[1]),
-            }
-        }
-    }
-    End::Solution
-}
 
 // ---- counts
 
@@ -237,12 +95,12 @@ fn values_sum(outcomes: &[Outcome]) -> u128 {
 
 // ---- jobs
 
-fn fill_and_check(plan: &Plan) {
+fn fill_and_check<S: Sum>(plan: &Plan) {
     let start = Instant::now();
-    let outcomes = filled(plan);
+    let outcomes = filled::<S>(plan);
     println!("time-fill {}", start.elapsed().as_nanos());
     let start = Instant::now();
-    let end = check(plan, &outcomes);
+    let end = check::<S>(plan, &outcomes);
     println!("time-check {}", start.elapsed().as_nanos());
     match end {
         End::NotValue(key) => println!("end-over {}", key.text()),
@@ -269,7 +127,7 @@ fn fill_and_check(plan: &Plan) {
     }
 }
 
-fn table_of(tensors: Tensors, bound: usize, fills: bool) {
+fn table_of<S: Sum>(tensors: Tensors, bound: usize, fills: bool) {
     let start = Instant::now();
     let made = Plan::make(tensors, bound);
     println!("time-plan {}", start.elapsed().as_nanos());
@@ -282,24 +140,37 @@ fn table_of(tensors: Tensors, bound: usize, fills: bool) {
     println!("needs {}", plan.needs.count());
     println!("needs-sum {}", needs_sum(&plan));
     if fills {
-        fill_and_check(&plan);
+        fill_and_check::<S>(&plan);
     }
 }
 
-fn main() {
-    let words: Vec<String> = std::env::args().skip(1).collect();
+fn run<S: Sum>(words: &[String]) {
+    if let Some("bulk" | "volume") = words.first().map(String::as_str) {
+        return match commands::done::<S>(words) {
+            Ok(()) => {}
+            Err(why) => eprintln!("{why}"),
+        };
+    }
     let bound: usize = words.get(1).and_then(|word| word.parse().ok()).unwrap_or(0);
     if !(1..=24).contains(&bound) {
         return println!("a bound from 1 to 24, please");
     }
     match words[0].as_str() {
-        "wk" => table_of(tensors::wk(bound), bound, true),
-        "bgw" => table_of(tensors::bgw(bound), bound, true),
+        "wk" => table_of::<S>(tensors::wk(bound), bound, true),
+        "bgw" => table_of::<S>(tensors::bgw(bound), bound, true),
         "wp" => match tensors::wp(bound) {
-            Ok(tensors) => table_of(tensors, bound, true),
+            Ok(tensors) => table_of::<S>(tensors, bound, true),
             Err(k) => println!("refused-c {k}"),
         },
-        "dense" => table_of(tensors::dense(8), bound, false),
+        "dense" => table_of::<S>(tensors::dense(8), bound, false),
         name => println!("no such structure: {name}"),
+    }
+}
+
+fn main() {
+    let words: Vec<String> = std::env::args().skip(1).collect();
+    match words.split_first() {
+        Some((first, behind)) if first == "once" => run::<Unreduced>(behind),
+        _ => run::<Steps>(&words),
     }
 }

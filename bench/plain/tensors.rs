@@ -64,6 +64,22 @@ impl Tensors {
         self.a[(i as usize * self.dim + j as usize) * self.dim + k as usize]
     }
 
+    pub fn b(&self, i: u8, j: u8, k: u8) -> Frac {
+        let row = self.row_b(i, j);
+        match row.binary_search_by_key(&k, |entry| entry.0) {
+            Ok(at) => row[at].1,
+            Err(_) => Frac::whole(0),
+        }
+    }
+
+    pub fn c(&self, i: u8, j: u8, k: u8) -> Frac {
+        let row = self.row_c(i);
+        match row.binary_search_by_key(&(j.min(k), j.max(k)), |entry| (entry.0, entry.1)) {
+            Ok(at) => row[at].2,
+            Err(_) => Frac::whole(0),
+        }
+    }
+
     pub fn row_b(&self, i: u8, j: u8) -> &[(u8, Frac)] {
         &self.b[i as usize * self.dim + j as usize]
     }
@@ -197,6 +213,104 @@ pub fn dense(dim: usize) -> Tensors {
             }
         }
         tensors.d[i] = draws.fraction();
+    }
+    tensors
+}
+
+// ---- large structures from a number
+
+/// All entries of a tensor with three indices below 8.
+type Full = [[[Frac; 8]; 8]; 8];
+
+/// A change of one index: the entry at `to` gains a multiple of the one at `from`.
+#[derive(Clone, Copy)]
+struct Gain {
+    to: usize,
+    from: usize,
+    factor: Frac,
+}
+
+impl Gain {
+    fn entry(self, old: Frac, other: Frac) -> Option<Frac> {
+        old.add(self.factor.mul(other)?)
+    }
+}
+
+/// The tensor with one slot changed.
+fn slot_changed(full: &Full, slot: usize, gain: Gain) -> Option<Full> {
+    let mut new = *full;
+    let (to, from) = (gain.to, gain.from);
+    for j in 0..8 {
+        for k in 0..8 {
+            match slot {
+                0 => new[to][j][k] = gain.entry(full[to][j][k], full[from][j][k])?,
+                1 => new[j][to][k] = gain.entry(full[j][to][k], full[j][from][k])?,
+                _ => new[j][k][to] = gain.entry(full[j][k][to], full[j][k][from])?,
+            }
+        }
+    }
+    Some(new)
+}
+
+/// The tensor with all slots changed, from left to right.
+fn changed(full: &Full, gains: [Gain; 3]) -> Option<Full> {
+    let mut new = *full;
+    for (slot, gain) in gains.iter().enumerate() {
+        new = slot_changed(&new, slot, *gain)?;
+    }
+    Some(new)
+}
+
+/// The tensors of `bulk SEED DIM`: drawn ones of one index each, behind dim - 1 changes of basis. None where a step leaves the range.
+pub fn bulk(seed: u64, dim: usize) -> Option<Tensors> {
+    let mut draws = Draws { state: seed };
+    let zero = [[[Frac::whole(0); 8]; 8]; 8];
+    let (mut a, mut b, mut c, mut d) = (zero, zero, zero, [Frac::whole(0); 8]);
+    for i in 0..dim {
+        a[i][i][i] = Frac::whole(1 + (draws.next() % 3) as i64);
+        b[i][i][i] = Frac::whole(1 + (draws.next() % 3) as i64);
+        c[i][i][i] = Frac::whole((draws.next() % 2) as i64);
+        d[i] = fraction(1 + (draws.next() % 7) as i128, 8);
+    }
+    for s in 1..dim {
+        let t = (draws.next() % 3) as i64 - 1;
+        let amplitude = Gain {
+            to: s,
+            from: s - 1,
+            factor: Frac::whole(t),
+        };
+        let contracted = Gain {
+            to: s - 1,
+            from: s,
+            factor: Frac::whole(-t),
+        };
+        a = changed(&a, [amplitude, amplitude, amplitude])?;
+        b = changed(&b, [amplitude, amplitude, contracted])?;
+        c = changed(&c, [amplitude, contracted, contracted])?;
+        d[s] = amplitude.entry(d[s], d[s - 1])?;
+    }
+    Some(stored(dim, &a, &b, &c, &d))
+}
+
+/// The entries that aren't 0, by rows.
+fn stored(dim: usize, a: &Full, b: &Full, c: &Full, d: &[Frac; 8]) -> Tensors {
+    let zero = Frac::whole(0);
+    let mut tensors = Tensors::empty(dim, Shape::All);
+    for i in 0..dim {
+        for j in 0..dim {
+            for k in 0..dim {
+                if j <= k {
+                    tensors.put_a(i, j, k, a[i][j][k]);
+                    if c[i][j][k] != zero {
+                        tensors.put_c(i, j, k, c[i][j][k]);
+                    }
+                }
+                if b[i][j][k] != zero {
+                    tensors.put_b(i, j, k, b[i][j][k]);
+                }
+            }
+        }
+        tensors.d[i] = d[i];
     }
     tensors
 }

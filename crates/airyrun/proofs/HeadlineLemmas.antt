@@ -20,9 +20,9 @@ use Rattle.series_law.specs.Jobs.{JobUniquenessLaw, JobCheckedLaw}
 use Rattle.series_law.proofs.FirstLaw.{first_finding}
 use Rattle.series_law.proofs.TableRanks.{length-outcomes}
 use Rattle.airyrun.specs.Report.{Report}
-use Rattle.airyrun.specs.Tables.{is_bound, table_report, verdict_of, has_letter, row_text, rows_text}
+use Rattle.airyrun.specs.Tables.{is_bound, table_report, verdict_of, has_letter, row_text, rows_text, whole_table}
 use Rattle.airyrun.specs.Headline.{Headline, HasTwoOrders, IsLine}
-use Rattle.airyrun.specs.Laws.{Step, outside, unmade, limited, blank, over, orders, whole, whole_table}
+use Rattle.airyrun.specs.Laws.{Step, outside, unmade, limited, blank, over, orders, whole}
 use Rattle.airyrun.proofs.SessionLemmas.{shown_value}
 use Rattle.airyrun.proofs.StepLaw.{table_steps}
 
@@ -114,17 +114,22 @@ module _ (laws : JobLaws) (s : Structure) (X : ℕ) (sound : IsSound s) (some : 
 status_of : {report whole : Report} → report ≡ whole → report.status ≡ whole.status
 status_of e = ap (λ (r : Report). r.status) e
 
-pub headline_of : JobLaws → (s : Structure) (X : ℕ) → IsSound s → (table_report s X).status ≡ 0 → Headline s X (table_report s X).bytes
-headline_of laws s X sound e = by (table_steps s X)
+-- where a table's report is 0, it is of the whole table, which has the headline
+pub whole_of : JobLaws → (s : Structure) (X : ℕ) → IsSound s → (table_report s X).status ≡ 0
+    → (table_report s X ≡ record { status = 0; bytes = whole_table s X }) × Headline s X (whole_table s X)
+whole_of laws s X sound e = by (table_steps s X)
   where
-    by : Step s X (table_report s X) → Headline s X (table_report s X).bytes
+    by : Step s X (table_report s X) → (table_report s X ≡ record { status = 0; bytes = whole_table s X }) × Headline s X (whole_table s X)
     by (outside b said) = absurd (omega (arith, e, status_of said))
     by (unmade b k m h) = absurd (omega (arith, e, h))
     by (limited b m l h) = absurd (omega (arith, e, h))
     by (blank made r found h) = absurd (omega (arith, e, status_of h))
     by (over made key i found h) = absurd (omega (arith, e, status_of h))
     by (orders made key i a j b found h) = absurd (omega (arith, e, status_of h))
-    by (whole made found said) = subst (λ (r : Report). Headline s X r.bytes) (sym said) (headline laws s X sound (within_bound X made.bounded) found)
+    by (whole made found said) = (said, headline laws s X sound (within_bound X made.bounded) found)
+
+pub headline_of : JobLaws → (s : Structure) (X : ℕ) → IsSound s → (table_report s X).status ≡ 0 → Headline s X (table_report s X).bytes
+headline_of laws s X sound e = let w = whole_of laws s X sound e in subst (λ (r : Report). Headline s X r.bytes) (sym w.0) w.1
 
 -- two orders that the check finds have numbers that differ
 differ_of : (T : Tensors) (X : ℕ) (table : List Outcome) (key : Key) (i j : ℕ) (a b : ℚ) → check T X table ≡ Orders key i a j b → a ≡ b → ⊥

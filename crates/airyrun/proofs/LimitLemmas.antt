@@ -25,7 +25,7 @@ count_is : (T : Tensors) (X r : ℕ) → length (needed T X r) ≡ count_of (pla
 unfolding needed needs_rank named_ranks count_of
 count_is T X r = refl
 
-counts_same : (T T' : Tensors) (X : ℕ) → PlanLaw → SameBelowDim T T' → need_counts T X ≡ need_counts T' X
+pub counts_same : (T T' : Tensors) (X : ℕ) → PlanLaw → SameBelowDim T T' → need_counts T X ≡ need_counts T' X
 unfolding need_counts below
 counts_same T T' X once same =
     map_from (λ r. length (needed T X r)) (λ r. length (needed T' X r)) 0 (length (planned T X)) (λ r p q. one r (omega arith))

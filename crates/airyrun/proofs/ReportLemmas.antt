@@ -1,5 +1,5 @@
 -- What is printed of stored tensors is what is printed of those that they stand for.
-use Rattle.std.proofs.Common.{subst, ◌≡◌, ◌⊎◌, inl, inr, ℕ, refl, sym, ap, ◌∙◌, false, cond, true, Bool}
+use Rattle.std.proofs.Common.{subst, arith, ◌≡◌, ◌≢◌, ◌⊎◌, inl, inr, ℕ, refl, sym, ap, ◌∙◌, false, cond, true, Bool}
 use Rattle.std.proofs.lemmas.List.{length-map}
 use Rattle.amp_terms.proofs.OutcomeLemmas.{length-all}
 use Rattle.std.specs.Prelude.{List, length, map, Option, Some, None}
@@ -69,6 +69,14 @@ told_cause p (cause.Bound got) cells t = inl (rw (t.0) (ap bound_refused t.1))
 told_cause p (cause.Cells level) cells t = inl (rw t refl)
 told_cause p (cause.Edges key) cells t = inl (rw t refl)
 told_cause p cause.NoMemory cells t = inr refl
+
+-- and no cause is that of a whole table
+pub not_whole : (why : PlanCause) → (cause_report why).status ≢ 0
+unfolding cause_report
+not_whole (cause.Bound got) e = omega (arith, e)
+not_whole (cause.Cells level) e = omega (arith, e)
+not_whole (cause.Edges key) e = omega (arith, e)
+not_whole cause.NoMemory e = omega (arith, e)
 
 pub refused_bound : (s : Structure) (X : ℕ) → is_bound X ≡ false → table_report s X ≡ bound_refused X
 unfolding table_report

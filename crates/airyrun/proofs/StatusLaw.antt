@@ -6,7 +6,6 @@ use Rattle.std.specs.Io.KnownBytes.{Consumes, IsAtEnd}
 use Rattle.airy_io.specs.Causes.{Giving, Rose}
 use Rattle.airy_math.specs.Jobs.{Structure, planned_tensors}
 use Rattle.amp_plan.specs.Limits.{Limit, Within, PassesBound, PassesCells, PassesNeeds, limit}
-use Rattle.series_law.specs.Check as check
 use Rattle.sparse_tensor.specs.Entries.{Entries}
 use Rattle.tensor_text.specs.Grammar.{TextReading, Read}
 use Rattle.tensor_text.specs.Grammar as grammar
@@ -19,7 +18,7 @@ use Rattle.airy_relations.specs.declared.verdict.Verdict.TheVariants.{Closed, Di
 use Rattle.airy_relations.specs.Verdicts.{verdict}
 use Rattle.sparse_tensor.specs.Entries.{looked_up}
 use Rattle.airyrun.specs.Relations.{relations_report, of_relations, text_relations}
-use Rattle.command_words.specs.Words.{Reading, Named, Text, Table, Session, Probe, Relations, Refused}
+use Rattle.command_words.specs.Words.{Reading, Named, Text, Table, Session, Probe, Relations, Number, Volume, Bulk, Refused}
 use Rattle.command_words.specs.Options.{reading_of}
 use Rattle.airyrun.specs.Report.{Report, bound_refused, out_of_memory}
 use Rattle.airyrun.specs.Tables.{is_bound, structure_of, text_structure, making_over, making_report, plan_report, table_report}
@@ -27,8 +26,8 @@ use Rattle.airyrun.specs.Sessions.{session_of, session_report, LeadsToSession}
 use Rattle.airyrun.specs.Texts.{read_fault, text_too_long, line_refused}
 use Rattle.airyrun.specs.Run.{Run, Answers, Leads, LeadsToTable, LeadsFromText, failed, wanting, long, refused, read, LeadsWithBound, beyond, within}
 use Rattle.airyrun.specs.Laws.{of_reading, of_text, closed_table, closed_session, probed_table, meant, MayReply, OneStatusLaw, OneReportLaw, Gives, GivesMeant, TakesMemory, HasCauses, IsComplete}
-use Rattle.airyrun.proofs.RunLemmas.{other_family, other_probe, other_closed_table, other_family_session, other_closed_session, other_family_relations, other_text_relations}
-use Rattle.airyrun.proofs.StatusLemmas.{IsPlain, IsOther, plain_ample, plain_table, plain_session, plain_of, plain_checked, plain_family, plain_text, plain_bound}
+use Rattle.airyrun.proofs.RunLemmas.{other_family, other_probe, other_closed_table, other_family_session, other_closed_session, other_family_relations, other_text_relations, other_number, other_volume, other_bulk}
+use Rattle.airyrun.proofs.StatusLemmas.{IsPlain, IsOther, plain_ample, plain_table, plain_session, plain_of, plain_checked, plain_family, plain_number, plain_volume, plain_bulk, plain_text, plain_bound}
 
 -- what led to the status and the bytes
 pub record Told (run : Run) : Type 0 where
@@ -74,6 +73,9 @@ refused_word run answers e = let t = told_by run answers (not_nine 2 run.status 
     cause (Probe X workers) e report leads h = absurd (other_bound X _ _ _ report (other_probe X) leads h)
     cause (Relations N (Named family)) e report leads h = absurd ((other_family_relations family N report leads).0 h)
     cause (Relations N Text) e report leads h = absurd (other_text _ _ _ report (other_text_relations N) leads h)
+    cause (Number family key) e report leads h = absurd ((other_number family key report leads).0 h)
+    cause (Volume g n) e report leads h = absurd ((other_volume g n report leads).0 h)
+    cause (Bulk seed dim X workers) e report leads h = absurd ((other_bulk seed dim X report leads).0 h)
 
 -- ---- the report that is meant
 
@@ -194,6 +196,9 @@ stands_by run (Probe X workers) report leads = bound_stands (Probe X workers) ru
 stands_by run (Relations N (Named family)) report leads = elim leads.checked.said [ inl e ↦ without_text run (Relations N (Named family)) report [] e (λ z. tt) | inr e ↦ is_wanting tt e ]
 stands_by run (Relations N Text) report leads =
     text_stands (Relations N Text) run _ (λ replies. text_relations N) (λ text replies. Unit {0}) tt (λ text t r given l. elim l.said [ inl e ↦ inl ([], e, λ z. tt) | inr e ↦ inr e ]) report leads
+stands_by run (Number family key) report leads = elim leads.said [ inl e ↦ without_text run (Number family key) report [] e (λ z. tt) | inr e ↦ is_wanting e.0 e.1 ]
+stands_by run (Volume g n) report leads = elim leads.said [ inl e ↦ without_text run (Volume g n) report [] e (λ z. tt) | inr e ↦ is_wanting e.0 e.1 ]
+stands_by run (Bulk seed dim X workers) report leads = elim leads.said [ inl e ↦ without_text run (Bulk seed dim X workers) report [] e (λ z. tt) | inr e ↦ is_wanting e.0 e.1 ]
 
 -- memory is wanting only where it is taken
 bound_takes : (X : ℕ) (next : Entries → Report → Type 0) (old new : Giving) (report : Report) → LeadsWithBound X next old new report
@@ -201,22 +206,22 @@ bound_takes : (X : ℕ) (next : Entries → Report → Type 0) (old new : Giving
 bound_takes X next old new report (beyond out same e') e = absurd (omega (arith, status_of e', e))
 bound_takes X next old new report (within bounded l) e = bounded
 
+-- a report of a job without a text that is not what is meant is taken where memory is
+taken : {A : Type 0} {report whole : Report} → IsPlain whole → (report ≡ whole) ⊎ (A × (report ≡ out_of_memory)) → report.status ≡ 10 → A
+taken plain (inl t) e = absurd (plain_ample plain (sym (status_of t) ∙ e))
+taken plain (inr w) e = w.0
+
 wanting_takes : (run : Run) (r : Reading) (report : Report) → Leads r run report → report.status ≡ 10 → TakesMemory r
 wanting_takes run (Refused place) report leads e = absurd (omega (arith, status_of leads, e))
-wanting_takes run (Table (Named family) X workers) report leads e = by leads.said
-  where
-    by : (report ≡ table_report (structure_of family) X) ⊎ ((is_bound X ≡ true) × (report ≡ out_of_memory)) → is_bound X ≡ true
-    by (inl t) = absurd (plain_ample (plain_table (structure_of family) X) (sym (status_of t) ∙ e))
-    by (inr w) = w.0
+wanting_takes run (Table (Named family) X workers) report leads e = taken (plain_table (structure_of family) X) leads.said e
 wanting_takes run (Table Text X workers) report leads e = bound_takes X _ _ _ report leads e
-wanting_takes run (Session (Named family) X workers lines) report leads e = by leads.said
-  where
-    by : (report ≡ session_report (structure_of family) X leads.replies) ⊎ ((is_bound X ≡ true) × (report ≡ out_of_memory)) → is_bound X ≡ true
-    by (inl t) = absurd (plain_ample (plain_session (structure_of family) X leads.replies) (sym (status_of t) ∙ e))
-    by (inr w) = w.0
+wanting_takes run (Session (Named family) X workers lines) report leads e = taken (plain_session (structure_of family) X leads.replies) leads.said e
 wanting_takes run (Session Text X workers lines) report leads e = bound_takes X _ _ _ report leads e
 wanting_takes run (Probe X workers) report leads e = bound_takes X _ _ _ report leads e
 wanting_takes run (Relations N kind) report leads e = tt
+wanting_takes run (Number family key) report leads e = taken (plain_number (structure_of family) key) leads.said e
+wanting_takes run (Volume g n) report leads e = taken (plain_volume g n) leads.said e
+wanting_takes run (Bulk seed dim X workers) report leads e = taken (plain_bulk seed dim X) leads.said e
 
 -- ---- the range of the status
 
@@ -242,6 +247,9 @@ meant_range (Session Text X workers lines) text replies =
 meant_range (Probe X workers) text replies = plain_range (plain_bound X _ (plain_text (probed_table X) (λ t. plain_table (text_structure t) X) text))
 meant_range (Relations N (Named family)) text replies = plain_range (plain_family family N)
 meant_range (Relations N Text) text replies = plain_range (plain_text (text_relations N) (plain_checked N) text)
+meant_range (Number family key) text replies = plain_range (plain_number (structure_of family) key)
+meant_range (Volume g n) text replies = plain_range (plain_volume g n)
+meant_range (Bulk seed dim X workers) text replies = plain_range (plain_bulk seed dim X)
 
 stood_range : (run : Run) (r : Reading) (report : Report) → Stood run r report → IsInRange report.status
 stood_range run r report (is_meant text told replies e good) = subst IsInRange (sym (status_of e)) (meant_range r text replies)
@@ -308,6 +316,9 @@ one_report (Session kind X workers lines) text a b plain x y = absurd (plain tt)
 one_report (Probe X workers) text a b plain x y = x.said ∙ sym y.said
 one_report (Relations N (Named family)) text a b plain x y = x.said ∙ sym y.said
 one_report (Relations N Text) text a b plain x y = x.said ∙ sym y.said
+one_report (Number family key) text a b plain x y = x.said ∙ sym y.said
+one_report (Volume g n) text a b plain x y = x.said ∙ sym y.said
+one_report (Bulk seed dim X workers) text a b plain x y = x.said ∙ sym y.said
 
 session_status : (s : Structure) (X : ℕ) (a b : List Reply) → (session_report s X a).status ≡ (session_report s X b).status
 unfolding session_report making_report plan_report
@@ -350,6 +361,9 @@ meant_status (Session Text X workers lines) text a b = by (is_bound X)
 meant_status (Probe X workers) text a b = refl
 meant_status (Relations N (Named family)) text a b = refl
 meant_status (Relations N Text) text a b = refl
+meant_status (Number family key) text a b = refl
+meant_status (Volume g n) text a b = refl
+meant_status (Bulk seed dim X workers) text a b = refl
 
 pub one_status : OneStatusLaw
 one_status r text a b x y = status_of x.said ∙ meant_status r text x.replies y.replies ∙ sym (status_of y.said)

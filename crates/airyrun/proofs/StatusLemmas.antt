@@ -3,7 +3,6 @@ use Rattle.std.proofs.Common.{◌≡◌, ◌≢◌, ◌⊎◌, inl, inr, ℕ, �
 use Rattle.std.specs.Prelude.{Option, Some, None, Bool, true, false, cond, List, nat_le}
 use Rattle.airy_math.specs.Tensors.{Tensors}
 use Rattle.airy_math.specs.Planned.{planned}
-use Rattle.airy_math.specs.declared.Family.{Family}
 use Rattle.airy_math.specs.Jobs.{Structure, planned_tensors}
 use Rattle.amp_plan.specs.Limits.{Limit, Within, PassesBound, PassesCells, PassesNeeds, limit}
 use Rattle.amp_terms.specs.Tables.{full_table}
@@ -20,6 +19,16 @@ use Rattle.airyrun.specs.Texts.{text_too_long, line_refused}
 use Rattle.airyrun.specs.Relations.{relations_report, of_relations, text_relations, family_tensors, family_over, family_relations, closed}
 use Rattle.airyrun.specs.Sessions.{session_report}
 use Rattle.airyrun.specs.Laws.{of_reading, of_text}
+use Rattle.airyrun.specs.Forms.{summed}
+use Rattle.airyrun.specs.Numbers.{first_report, valued_report, quotient, quotient_report, euler_of, number_report, parts_report, volume_parts, volume_lacks, volume_report, terms_refused}
+use Rattle.airyrun.specs.Bulks.{changes_report, bulk_report}
+use Rattle.airy_math.specs.Keys.{Key, euler}
+use Rattle.airy_math.specs.Rational.{ℚ}
+use Rattle.airy_math.specs.Jobs.{Wp, Bulk}
+use Rattle.airy_math.specs.declared.Family.{Family}
+use Rattle.amp_terms.specs.Tables.{first_without}
+use Rattle.correlators.specs.Volumes.{Part, counted}
+use Rattle.bulk_tensors.specs.Bulk.{bulk, bulk_refusal}
 
 -- a status that is 0, or one from 3 to 7
 pub record IsPlain (report : Report) : Type 0 where
@@ -126,3 +135,60 @@ plain_bound X next h = by (is_bound X)
     by : (b : Bool) → IsPlain (cond b next (bound_refused X))
     by false = record { is = inr (omega arith, omega arith) }
     by true = h
+
+-- those of a plan
+plain_plan : (X : ℕ) (l : Limit) (next : Report) → IsPlain next → IsPlain (plan_report X l next)
+unfolding plan_report
+plain_plan X Within next h = h
+plain_plan X PassesBound next h = record { is = inr (omega arith, omega arith) }
+plain_plan X (PassesCells level) next h = record { is = inr (omega arith, omega arith) }
+plain_plan X (PassesNeeds key) next h = record { is = inr (omega arith, omega arith) }
+
+-- those of a number, of a volume, and of a large structure
+plain_first : (keys : List Key) (o : Option ℕ) (next : Report) → IsPlain next → IsPlain (first_report keys o next)
+unfolding first_report
+plain_first keys None next h = h
+plain_first keys (Some r) next h = record { is = inr (omega arith, omega arith) }
+
+plain_valued : (s : Structure) (X : ℕ) (next : Report) → IsPlain next → IsPlain (valued_report s X next)
+unfolding valued_report
+plain_valued s X next h =
+    let T = planned_tensors s X in
+    plain_bound X _ (plain_making (making_over s X) _ (plain_plan X (limit T X) _ (plain_first (planned T X) (first_without (full_table T X)) next h)))
+
+plain_quotient : (key : Key) (w : Option ℚ) → IsPlain (quotient_report key w)
+unfolding quotient_report
+plain_quotient key (Some w) = record { is = inl refl }
+plain_quotient key None = record { is = inr (omega arith, omega arith) }
+
+pub plain_number : (s : Structure) (key : Key) → IsPlain (number_report s key)
+unfolding number_report
+plain_number s key = plain_valued s (euler_of key) _ (plain_quotient key (quotient (planned_tensors s (euler_of key)) (euler_of key) key))
+
+plain_parts : (parts : List Part) (o : Option Key) → IsPlain (parts_report parts o)
+unfolding parts_report
+plain_parts parts None = record { is = inl refl }
+plain_parts parts (Some key) = record { is = inr (omega arith, omega arith) }
+
+pub plain_volume : (g n : ℕ) → IsPlain (volume_report g n)
+unfolding volume_report
+plain_volume g n = plain_bound (euler g n) _ (by (nat_le (counted g n) 100000))
+  where
+    by : (b : Bool) → IsPlain (cond b (valued_report Wp (euler g n) (parts_report (volume_parts g n) (volume_lacks g n))) (terms_refused (counted g n)))
+    by true = plain_valued Wp (euler g n) _ (plain_parts (volume_parts g n) (volume_lacks g n))
+    by false = record { is = inr (omega arith, omega arith) }
+
+plain_changes : (o : Option ℕ) (next : Report) → IsPlain next → IsPlain (changes_report o next)
+unfolding changes_report
+plain_changes None next h = h
+plain_changes (Some q) next h = record { is = inr (omega arith, omega arith) }
+
+plain_summed : (letter : Bool) (T : Tensors) (X : ℕ) (report : Report) → IsPlain report → IsPlain (summed letter T X report)
+unfolding summed
+plain_summed letter T X report h = record { is = h.is }
+
+pub plain_bulk : (seed dim X : ℕ) → IsPlain (bulk_report seed dim X)
+unfolding bulk_report
+plain_bulk seed dim X =
+    let T = bulk seed dim in
+    plain_bound X _ (plain_changes (bulk_refusal seed dim) _ (plain_relations (verdict T dim) _ (plain_summed false T X _ (plain_table (Bulk T) X))))

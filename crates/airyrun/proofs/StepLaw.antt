@@ -8,8 +8,8 @@ use Rattle.amp_plan.specs.Limits.{Limit, Within, PassesBound, PassesCells, Passe
 use Rattle.amp_terms.specs.Tables.{full_table}
 use Rattle.series_law.specs.Check as check
 use Rattle.airyrun.specs.Report.{Report, bound_refused}
-use Rattle.airyrun.specs.Tables.{has_letter, is_bound, making_over, making_report, checked_report, verdict_of, plan_report, cells_report, table_report}
-use Rattle.airyrun.specs.Laws.{whole_table, Step, TableStepsLaw}
+use Rattle.airyrun.specs.Tables.{has_letter, is_bound, making_over, making_report, checked_report, verdict_of, plan_report, cells_report, table_report, whole_table}
+use Rattle.airyrun.specs.Laws.{Step, TableStepsLaw}
 use Rattle.airyrun.specs.Laws as steps
 
 pub table_steps : TableStepsLaw

@@ -9,20 +9,21 @@ use Rattle.airy_math.specs.Ranks.{key_at}
 use Rattle.airy_index.specs.Text.{key_text}
 use Rattle.airy_math.specs.Jobs.{Structure, planned_tensors}
 use Rattle.amp_plan.specs.Limits.{Within, limit}
-use Rattle.amp_terms.specs.Tables.{full_table}
 use Rattle.series_law.specs.Check.{Solution, NotValue, Overflow, Orders}
 use Rattle.sparse_tensor.specs.Entries.{Entries}
 use Rattle.tensor_text.specs.Grammar.{TextReading, Read}
 use Rattle.tensor_text.specs.Grammar as grammar
 use Rattle.ask_seats.specs.Replies.{Reply}
 use Rattle.ask_seats.specs.Sessions.{Admitted}
-use Rattle.command_words.specs.Words.{Reading, Named, Text, Table, Session, Probe, Relations, Refused}
+use Rattle.command_words.specs.Words.{Reading, Named, Text, Table, Session, Probe, Relations, Number, Volume, Bulk, Refused}
 use Rattle.command_words.specs.Options.{reading_of}
 use Rattle.airyrun.specs.Report.{Report, word_refused, bound_refused, out_of_memory}
 use Rattle.airyrun.specs.Texts.{line_refused, text_too_long}
 use Rattle.airyrun.specs.Relations.{family_relations, of_relations, text_relations}
-use Rattle.airyrun.specs.Tables.{is_bound, has_letter, structure_of, text_structure, making_over, verdict_of, rows_text, pivot_text, over_at, orders_differ, table_report}
+use Rattle.airyrun.specs.Tables.{is_bound, structure_of, text_structure, making_over, verdict_of, pivot_text, over_at, orders_differ, table_report, whole_table}
 use Rattle.airyrun.specs.Sessions.{session_of, session_report}
+use Rattle.airyrun.specs.Numbers.{euler_of, number_report, takes_volume, volume_report}
+use Rattle.airyrun.specs.Bulks.{bulk_report}
 use Rattle.airyrun.specs.Run.{Run}
 
 -- ---- what is meant
@@ -56,6 +57,9 @@ meant (Session Text X workers lines) text replies = cond (is_bound X) (of_text (
 meant (Probe X workers) text replies = cond (is_bound X) (of_text (probed_table X) text) (bound_refused X)
 meant (Relations N (Named family)) text replies = family_relations family N
 meant (Relations N Text) text replies = of_text (text_relations N) text
+meant (Number family key) text replies = number_report (structure_of family) key
+meant (Volume g n) text replies = volume_report g n
+meant (Bulk seed dim X workers) text replies = bulk_report seed dim X
 
 -- the replies that a session may give; a job that is none may have any, and its report does not look at them
 unfoldable pub MayReply : Reading → List ℕ → List Reply → Type 0
@@ -66,6 +70,9 @@ MayReply (Refused place) text replies = Unit
 MayReply (Table kind X workers) text replies = Unit
 MayReply (Probe X workers) text replies = Unit
 MayReply (Relations N kind) text replies = Unit
+MayReply (Number family key) text replies = Unit
+MayReply (Volume g n) text replies = Unit
+MayReply (Bulk seed dim X workers) text replies = Unit
 
 -- A report that the words and the text may lead to. Two of them differ in the replies of a session alone, and in no status.
 pub record IsMeant (reading : Reading) (text : List ℕ) (report : Report) : Type 0 where
@@ -84,6 +91,9 @@ IsSession (Refused place) = ⊥
 IsSession (Table kind X workers) = ⊥
 IsSession (Probe X workers) = ⊥
 IsSession (Relations N kind) = ⊥
+IsSession (Number family key) = ⊥
+IsSession (Volume g n) = ⊥
+IsSession (Bulk seed dim X workers) = ⊥
 
 abbrev pub OneReportLaw : Type 0
 OneReportLaw =
@@ -104,13 +114,16 @@ pub record GivesMeant (run : Run) : Type 0 where
   pub means : IsMeant (reading_of run.words) text report
   pub gives : Gives run report
 
--- a job that takes memory: none does where a word or the bound is refused
+-- a job that takes memory: none does where a word, the bound, or the number of terms is refused
 abbrev pub TakesMemory : Reading → Type 0
 TakesMemory (Refused place) = ⊥
 TakesMemory (Table kind X workers) = IsTrue (is_bound X)
 TakesMemory (Session kind X workers lines) = IsTrue (is_bound X)
 TakesMemory (Probe X workers) = IsTrue (is_bound X)
 TakesMemory (Relations N kind) = Unit {0}
+TakesMemory (Number family key) = IsTrue (is_bound (euler_of key))
+TakesMemory (Volume g n) = IsTrue (takes_volume g n)
+TakesMemory (Bulk seed dim X workers) = IsTrue (is_bound X)
 
 -- Each status of a run has its cause.
 pub record HasCauses (run : Run) : Type 0 where
@@ -138,11 +151,6 @@ pub record IsMade (s : Structure) (X : ℕ) : Type 0 where
   pub bounded : is_bound X ≡ true
   pub made : making_over s X ≡ None
   pub within : limit (planned_tensors s X) X ≡ Within
-
--- the lines of the whole table
-unfoldable pub whole_table : Structure → ℕ → List ℕ
-whole_table s X =
-    rows_text (has_letter s) (planned_tensors s X).shape (planned (planned_tensors s X) X) (full_table (planned_tensors s X) X)
 
 -- What the report of a table is, by the first step that refuses it.
 pub data Step (s : Structure) (X : ℕ) (report : Report) : Type 0 where

@@ -127,6 +127,11 @@ table_report s X =
     (making_report (making_over s X) (plan_report X (limit (planned_tensors s X) X) (cells_report (has_letter s) (planned_tensors s X) X)))
     (bound_refused X)
 
+-- the lines of the whole table
+unfoldable pub whole_table : Structure → ℕ → List ℕ
+whole_table s X =
+    rows_text (has_letter s) (planned_tensors s X).shape (planned (planned_tensors s X) X) (full_table (planned_tensors s X) X)
+
 -- ---- what the code's parts write
 
 -- the line of a rank, the lines of a table, and the report of the cells, of a plan

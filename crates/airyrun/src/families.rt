@@ -12,7 +12,7 @@ ghost use Rattle.airyrun.specs.Tables.{ArePlanned, EndsTable, has_letter, is_bou
 use crate::bounds::is_bound;
 use crate::relations::say_relations;
 use crate::report::{refuse_bound, refuse_memory, refuse_number};
-use crate::tables::print_stored;
+use crate::tables::{Form, print_stored};
 use airy_io::Sink;
 use airy_math::{Family, below_dim, planned_once};
 use airy_relations::same_verdict;
@@ -65,7 +65,7 @@ fn made_table<R: Threads + Sync, W: Sink, G: Gate + Sync>(
     below_dim();
     same_tables();
     match tensors_of(alloc, family, bound) {
-        Ok(tensors) => print_stored(rt, alloc, tensors, bound, workers, gate, out),
+        Ok(tensors) => print_stored(rt, alloc, tensors, bound, Form::Rows, workers, gate, out),
         Err(refusal) => refuse_making(out, refusal),
     }
 }

@@ -144,6 +144,13 @@ fn two_workers_at_once(rt: HostRuntime) -> Result<(), Fail> {
         "probe 1 --workers=2",
         TWO_INDICES,
         TWO_INDICES_1,
+    )?;
+    assert_two(
+        &rt,
+        rt.alloc(),
+        "bulk 1 1 1 --workers=2",
+        b"",
+        b"cells 2\nneeds 0\nlast 1,1 [0] 1/4\nsolution\n",
     )
 }
 

@@ -4,6 +4,7 @@
 ghost use Rattle.std.specs.Prelude.{◌≡◌, ◌⊎◌, IfErr};
 
 mod bounds;
+mod bulks;
 mod families;
 #[cfg(test)]
 mod family_tests;
@@ -14,6 +15,7 @@ mod gate_tests;
 mod laws;
 #[cfg(test)]
 mod number_tests;
+mod numbers;
 mod pivots;
 mod relations;
 mod report;
@@ -29,6 +31,8 @@ mod talk;
 mod tests;
 mod texts;
 mod top;
+mod valued;
+mod volumes;
 #[cfg(test)]
 mod word_tests;
 

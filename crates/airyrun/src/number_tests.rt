@@ -1,124 +1,105 @@
-use airy_index::Key;
-use amp_plan::{Place, Plan};
-use amp_terms::{Table, one_thread};
-use frac128::Frac;
-use named_families::wk;
+use crate::tests::{Case, assert_told, run_over};
 use std::test::Fail;
 
-/// The intersection number of a key: its Value, divided by the product of the `(2d + 1)!!` of its indices.
-fn number(value: Frac, key: &Key) -> Option<Frac> {
-    let mut quotient = value;
-    for d in key.idx() {
-        for k in 1..=*d {
-            let odd = 2 * i128::from(k) + 1;
-            quotient = quotient.mul(Frac::new(1, odd).ok()?)?;
-        }
-    }
-    Some(quotient)
-}
+/// Intersection numbers and Theta numbers: multinomials in genus 0, `1/(24^g g!)` at one index, a string and a dilaton equation, and what
+/// the literature prints; then the refusals.
+const NUMBERS: [Case; 17] = [
+    ("number wk 0 0 0 0", b"", 0, b"1\n"),
+    ("number wk 0 2 0 1 0 0 0", b"", 0, b"3\n"),
+    ("number wk 1 1", b"", 0, b"1/24\n"),
+    ("number wk 2 4", b"", 0, b"1/1152\n"),
+    ("number wk 3 7", b"", 0, b"1/82944\n"),
+    ("number wk 2 5 0", b"", 0, b"1/1152\n"),
+    ("number wk 2 1 4", b"", 0, b"1/384\n"),
+    ("number wk 2 2 3", b"", 0, b"29/5760\n"),
+    ("number wk 1 0", b"", 0, b"0\n"),
+    ("number wk 1 255 255", b"", 0, b"0\n"),
+    ("number bgw 1 0", b"", 0, b"1/8\n"),
+    ("number bgw 2 1", b"", 0, b"3/128\n"),
+    ("number bgw 3 2", b"", 0, b"15/1024\n"),
+    ("number wk 12 0 0 0", b"", 5, b"refused: bound 25\n"),
+    (
+        "number wk 0 0 0 0 --workers=1",
+        b"",
+        2,
+        b"refused: word 7\n",
+    ),
+    ("number wp 1 1", b"", 2, b"refused: word 2\n"),
+    (
+        "number wk 0 0 0 0 0 0 0 0 0 0 0 0 0 0 0 0 0 0 0 0 0 0 0 0 0 0 0 0 0",
+        b"",
+        2,
+        b"refused: word 30\n",
+    ),
+];
 
-/// The intersection number of a genus and a list of indices; 0 where the shape doesn't cover them.
-fn number_of(plan: &Plan, table: &Table, g: u8, idx: &[u8]) -> Option<Frac> {
-    let key = Key::of(g, idx).ok()?;
-    match plan.rank_of(&key) {
-        Place::At(rank) if rank < table.len() => number(table.value(rank)?, &key),
-        Place::Zero => Some(Frac::whole(0)),
-        _ => None,
-    }
-}
+/// Volumes as the literature has them, and the refusals.
+const VOLUMES: [Case; 12] = [
+    ("volume 0 3", b"", 0, b"1\n"),
+    ("volume 1 1", b"", 0, b"1/12 p + 1/48 L1^2\n"),
+    (
+        "volume 1 2",
+        b"",
+        0,
+        b"1/4 p^2 + 1/12 p L1^2 + 1/12 p L2^2 + 1/192 L1^4 + 1/96 L1^2 L2^2 + 1/192 L2^4\n",
+    ),
+    (
+        "volume 0 4",
+        b"",
+        0,
+        b"2 p + 1/2 L1^2 + 1/2 L2^2 + 1/2 L3^2 + 1/2 L4^2\n",
+    ),
+    (
+        "volume 2 1",
+        b"",
+        0,
+        b"29/192 p^4 + 169/2880 p^3 L1^2 + 139/23040 p^2 L1^4 + 29/138240 p L1^6 + 1/442368 L1^8\n",
+    ),
+    ("volume 0 26", b"", 5, b"refused: terms 58343356817424\n"),
+    ("volume 13 1", b"", 5, b"refused: bound 25\n"),
+    ("volume 6 2", b"", 6, b"refused: over at 6,2 [0 0]\n"),
+    ("volume 0 27", b"", 2, b"refused: word 3\n"),
+    ("volume 0 2", b"", 2, b"refused: word 4\n"),
+    ("volume -- 1 1", b"", 0, b"1/12 p + 1/48 L1^2\n"),
+    ("volume 1 1 1", b"", 2, b"refused: word 4\n"),
+];
 
-fn factorial(n: u8) -> Option<Frac> {
-    let mut product = Frac::whole(1);
-    for k in 1..=n {
-        product = product.mul(Frac::whole(i64::from(k)))?;
-    }
-    Some(product)
-}
-
-/// In genus 0 the number is `(n - 3)!` over the product of the factorials of the indices.
-fn is_multinomial(found: Frac, idx: &[u8]) -> Option<bool> {
-    let mut product = found;
-    for d in idx {
-        product = product.mul(factorial(*d)?)?;
-    }
-    let free = idx.len().checked_sub(3)?;
-    Some(product == factorial(u8::try_from(free).ok()?)?)
-}
-
-/// With one index it is `1/(24^g g!)`.
-fn is_one_point(found: Frac, g: u8) -> Option<bool> {
-    let mut product = found.mul(factorial(g)?)?;
-    for _ in 0..g {
-        product = product.mul(Frac::whole(24))?;
-    }
-    Some(product == Frac::whole(1))
-}
-
-/// The string equation for a list that begins with 0: the sum over the others, each lowered by 1.
-fn has_string(plan: &Plan, table: &Table, g: u8, found: Frac, others: &[u8]) -> Option<bool> {
-    let mut sum = Frac::whole(0);
-    for at in 0..others.len() {
-        if let Some(lower) = others[at].checked_sub(1) {
-            let mut indices = [0u8; 26];
-            let room = indices.get_mut(..others.len())?;
-            room.copy_from_slice(others);
-            room[at] = lower;
-            sum = sum.add(number_of(plan, table, g, room)?)?;
-        }
-    }
-    Some(sum == found)
-}
-
-/// The dilaton equation at each index 1 of a list: the number is `2g - 2 + n` times that of the n others.
-fn has_dilaton(plan: &Plan, table: &Table, g: u8, found: Frac, idx: &[u8]) -> Option<bool> {
-    for at in 0..idx.len() {
-        if idx[at] == 1 {
-            let mut indices = [0u8; 26];
-            let others = indices.get_mut(..idx.len() - 1)?;
-            others[..at].copy_from_slice(&idx[..at]);
-            others[at..].copy_from_slice(&idx[at + 1..]);
-            let euler = 2 * i64::from(g) + i64::try_from(others.len()).ok()? - 2;
-            let raised = number_of(plan, table, g, others)?.mul(Frac::whole(euler))?;
-            if raised != found {
-                return Some(false);
-            }
-        }
-    }
-    Some(true)
-}
-
-/// Whether the facts that the literature has of a key's intersection number hold of its Value.
-fn has_facts(plan: &Plan, table: &Table, key: &Key, value: Frac) -> Option<bool> {
-    let (g, idx) = (key.g(), key.idx());
-    let found = number(value, key)?;
-    if g == 0 && !is_multinomial(found, idx)? {
-        return Some(false);
-    }
-    if idx.len() == 1 && !is_one_point(found, g)? {
-        return Some(false);
-    }
-    let least = (g == 0 && idx.len() == 3) || idx.len() == 1;
-    if least {
-        return Some(true);
-    }
-    let (first, others) = idx.split_first()?;
-    if *first == 0 && !has_string(plan, table, g, found, others)? {
-        return Some(false);
-    }
-    has_dilaton(plan, table, g, found, idx)
-}
+/// Large structures.
+const BULKS: [Case; 6] = [
+    (
+        "bulk 1 1 3",
+        b"",
+        0,
+        b"cells 7\nneeds 11\nlast 2,1 [0] 33/32\nsolution\n",
+    ),
+    (
+        "bulk 1 2 1",
+        b"",
+        0,
+        b"cells 6\nneeds 0\nlast 1,1 [1] 5/8\nsolution\n",
+    ),
+    ("bulk 1 4 0", b"", 5, b"refused: bound 0\n"),
+    ("bulk 1 4 25", b"", 5, b"refused: bound 25\n"),
+    ("bulk 1 8 24", b"", 5, b"refused: cells at level 11\n"),
+    ("bulk 1 9 1", b"", 2, b"refused: word 3\n"),
+];
 
 #[test]
-fn numbers_of_the_literature(rt: HostRuntime) -> Result<(), Fail> {
-    let alloc = rt.alloc();
-    let tensors = wk(alloc, 6).map_err(|_| "tensors")?;
-    let plan = Plan::make(alloc, tensors, 6).map_err(|_| "plan")?;
-    let table = one_thread(alloc, &plan).map_err(|_| "table")?;
-    assert_eq!(rt; plan.len(), 76);
-    for rank in 0..table.len() {
-        let key = plan.keys().get(rank as usize).ok_or("key")?;
-        let value = table.value(rank).ok_or("value")?;
-        assert_eq!(rt; has_facts(&plan, &table, key, value), Some(true));
+fn numbers_volumes_and_large_structures(rt: HostRuntime) -> Result<(), Fail> {
+    assert_told(&rt, rt.alloc(), &NUMBERS)?;
+    assert_told(&rt, rt.alloc(), &VOLUMES)?;
+    assert_told(&rt, rt.alloc(), &BULKS)
+}
+
+/// The summary of a large structure is the same for every number of workers.
+#[test]
+fn a_large_structure_by_any_crew(rt: HostRuntime) -> Result<(), Fail> {
+    let alone = run_over(&rt, rt.alloc(), "bulk 1 4 8 --workers=0", b"")?;
+    assert!(rt; alone.status == 0 && alone.bytes().starts_with(b"cells 1772\n"));
+    assert!(rt; alone.bytes().ends_with(b"\nsolution\n"));
+    for line in ["bulk 1 4 8 --workers=1", "bulk 1 4 8 --workers=8"] {
+        let told = run_over(&rt, rt.alloc(), line, b"")?;
+        assert!(rt; told.is(0, alone.bytes()), "{}", line);
     }
     Ok(())
 }

@@ -11,7 +11,7 @@ ghost use Rattle.airyrun.specs.Ends.{EndsBy, EndsOfText, EndsWithBound};
 use crate::bounds::is_bound;
 use crate::relations::{say_relations, say_verdict};
 use crate::report::{refuse, refuse_bound, refuse_memory, say};
-use crate::tables::print_stored;
+use crate::tables::{Form, print_stored};
 use crate::talk::talk_script;
 use airy_io::{LineText, Sink, Source};
 use airy_math::{below_dim, own_tensors, planned_once};
@@ -133,7 +133,7 @@ fn print_text<R: Threads + Sync, W: Sink, G: Gate + Sync>(
     planned_once();
     own_tensors();
     tensors.soundness_fact();
-    print_stored(rt, alloc, tensors, bound, workers, gate, out)
+    print_stored(rt, alloc, tensors, bound, Form::Rows, workers, gate, out)
 }
 
 /// Prints the table of a text's tensors, or where their relations fail first.
@@ -156,7 +156,7 @@ fn print_closed<R: Threads + Sync, W: Sink, G: Gate + Sync>(
     own_tensors();
     tensors.soundness_fact();
     match check(&tensors, tensors.dim()) {
-        Verdict::Closed => print_stored(rt, alloc, tensors, bound, workers, gate, out),
+        Verdict::Closed => print_stored(rt, alloc, tensors, bound, Form::Rows, workers, gate, out),
         fails => say_verdict(&fails, out),
     }
 }

@@ -5,7 +5,7 @@ ghost use Rattle.amp_plan.specs.Plans.{keys_of, tensors_of};
 use crate::{Place, Plan, PlanCause, PlanErr, TermVisitor, walk_terms};
 use airy_index::{Key, Law, Shape};
 use frac128::Frac;
-use sparse_tensor::Tensors;
+use sparse_tensor::{PutErr, Tensors};
 use std::alloc::Global;
 use std::test::Fail;
 
@@ -18,9 +18,9 @@ fn graded(alloc: Global, dim: u8, letter: bool) -> Result<Tensors, Fail>
     requires most { dim ≤ 72 }
 {
     if letter {
-        return Ok(Tensors::empty(alloc, dim, Shape::AtMost(WK), true).map_err(|_| "tensors")?);
+        return Ok(Tensors::empty(alloc, dim, Shape::AtMost(WK), true)?);
     }
-    Ok(Tensors::empty(alloc, dim, Shape::Exact(WK), false).map_err(|_| "tensors")?)
+    Ok(Tensors::empty(alloc, dim, Shape::Exact(WK), false)?)
 }
 
 #[tactic(auto, unfolding(sparse_tensor::specs::Grades::IsSmallLaw))]
@@ -28,7 +28,7 @@ fn ungraded(alloc: Global, dim: u8) -> Result<Tensors, Fail>
     requires some { 0 < dim }
     requires most { dim ≤ 72 }
 {
-    Ok(Tensors::empty(alloc, dim, Shape::All, false).map_err(|_| "tensors")?)
+    Ok(Tensors::empty(alloc, dim, Shape::All, false)?)
 }
 
 /// The tensors of Witten and Kontsevich with all indices up to `top`: `A^0_00 = 1`, `B^i_jk = 2j + 1` where
@@ -37,32 +37,44 @@ fn wk(alloc: Global, top: u8) -> Result<Tensors, Fail>
     requires { top < 72 }
 {
     let mut t = graded(alloc, top + 1, false)?;
-    t.put_a(0, 0, 0, Frac::whole(1)).map_err(|_| "a")?;
-    if top > 0 {
-        let eighth = Frac::new(1, 8).map_err(|_| "1/8")?;
-        t.put_d(1, eighth).map_err(|_| "d")?;
-    }
-    for j in 0..=top {
-        for i in 0..=top {
-            put_with(&mut t, i, j, top)?;
-        }
-    }
+    put_wk(&mut t, top)?;
     Ok(t)
 }
 
+fn put_wk(t: &mut Tensors, top: u8) -> Result<(), PutErr>
+    requires { top < 72 }
+{
+    t.put_a(0, 0, 0, Frac::whole(1))?;
+    if top > 0 {
+        t.put_d(1, Frac::new(1, 8).unwrap_or(Frac::whole(0)))?;
+    }
+    for j in 0..=top {
+        for i in 0..=top {
+            put_with(t, i, j, top)?;
+        }
+    }
+    Ok(())
+}
+
 /// The entries of B whose first two indices are i and j, and those of C whose last two are.
-fn put_with(t: &mut Tensors, i: u8, j: u8, top: u8) -> Result<(), Fail>
+fn put_with(t: &mut Tensors, i: u8, j: u8, top: u8) -> Result<(), PutErr>
     requires i { i < 72 }
     requires j { j < 72 }
 {
     if i + j >= 1 && i + j - 1 <= top {
-        t.put_b(i, j, i + j - 1, Frac::whole(2 * i64::from(j) + 1))
-            .map_err(|_| "b")?;
+        t.put_b(i, j, i + j - 1, Frac::whole(2 * i64::from(j) + 1))?;
     }
     if i <= j && i + j + 2 <= top {
-        t.put_c(i + j + 2, i, j, Frac::whole(1)).map_err(|_| "c")?;
+        t.put_c(i + j + 2, i, j, Frac::whole(1))?;
     }
     Ok(())
+}
+
+fn planned(alloc: Global, tensors: Tensors, bound: u8) -> Result<Plan, Fail> {
+    match Plan::make(alloc, tensors, bound) {
+        Ok(plan) => Ok(plan),
+        Err(_) => Err("plan".into()),
+    }
 }
 
 /// The plan of these tensors with all indices that a table up to the bound can need.
@@ -71,11 +83,15 @@ fn plan_of_wk(alloc: Global, bound: u8) -> Result<Plan, Fail>
     requires most { bound ≤ 24 }
 {
     let tensors = wk(alloc, bound - 1 + (bound + 1) / 2)?;
-    Ok(Plan::make(alloc, tensors, bound).map_err(|_| "plan")?)
+    planned(alloc, tensors, bound)
 }
 
-fn key(g: u8, indices: &[u8]) -> Result<Key, Fail> {
-    Ok(Key::of(g, indices).map_err(|_| "key")?)
+/// Whether the key of that genus with those indices stands there.
+fn stands(plan: &Plan, g: u8, indices: &[u8], place: Place) -> bool {
+    match Key::of(g, indices) {
+        Ok(key) => plan.rank_of(&key) == place,
+        Err(_) => false,
+    }
 }
 
 /// Whether the key of a rank has this text, stands there, and has these needs and dependents.
@@ -92,97 +108,126 @@ fn is_row(plan: &Plan, rank: u32, text: &[u8], needs: &[u32], dependents: &[u32]
         && plan.dependents(rank) == dependents
 }
 
+fn are_rows(plan: &Plan) -> bool {
+    is_row(plan, 0, b"0,3 [0 0 0]", &[], &[2])
+        && is_row(plan, 1, b"1,1 [1]", &[], &[3, 4])
+        && is_row(plan, 2, b"0,4 [0 0 0 1]", &[0], &[])
+        && is_row(plan, 3, b"1,2 [0 2]", &[1], &[])
+        && is_row(plan, 4, b"1,2 [1 1]", &[1], &[])
+}
+
+fn has_sizes(plan: &Plan) -> bool {
+    plan.len() == 5 && plan.edges() == 3 && plan.bound() == 2 && plan.tensors().dim() == 3
+}
+
 #[test]
 fn the_plan_of_wk_up_to_2(rt: HostRuntime) -> Result<(), Fail> {
     let plan = plan_of_wk(rt.alloc(), 2)?;
-    assert!(rt;
-        plan.len() == 5 && plan.edges() == 3 && plan.bound() == 2 && plan.tensors().dim() == 3
-    );
-    assert!(rt; is_row(&plan, 0, b"0,3 [0 0 0]", &[], &[2]));
-    assert!(rt; is_row(&plan, 1, b"1,1 [1]", &[], &[3, 4]));
-    assert!(rt; is_row(&plan, 2, b"0,4 [0 0 0 1]", &[0], &[]));
-    assert!(rt; is_row(&plan, 3, b"1,2 [0 2]", &[1], &[]));
-    assert!(rt; is_row(&plan, 4, b"1,2 [1 1]", &[1], &[]));
+    assert!(rt; has_sizes(&plan));
+    assert!(rt; are_rows(&plan));
     Ok(())
+}
+
+/// Whether the plan of that bound has its number of keys, and up to 10 its number of needs.
+fn has_numbers(plan: &Plan, bound: u8) -> bool
+    requires some { 0 < bound }
+    requires most { bound < 13 }
+{
+    let keys = [2, 5, 11, 22, 42, 76, 133, 225, 372, 601, 952, 1481];
+    let needs = [0, 3, 12, 27, 62, 125, 241, 437, 775, 1331];
+    let at = bound as usize - 1;
+    plan.len() == keys[at]
+        && plan.keys().len() == plan.len() as usize
+        && (bound > 10 || plan.edges() == needs[at])
 }
 
 #[test]
 fn the_plans_of_wk_have_their_numbers_of_keys_and_needs(rt: HostRuntime) -> Result<(), Fail> {
-    let keys = [2, 5, 11, 22, 42, 76, 133, 225, 372, 601, 952, 1481];
-    let needs = [0, 3, 12, 27, 62, 125, 241, 437, 775, 1331];
     for bound in 1..13 {
         let plan = plan_of_wk(rt.alloc(), bound)?;
-        assert!(rt;
-            plan.len() == keys[bound as usize - 1] && plan.keys().len() == plan.len() as usize
-        );
-        if bound <= 10 {
-            assert!(rt; plan.edges() == needs[bound as usize - 1]);
-        }
+        assert!(rt; has_numbers(&plan, bound));
     }
     Ok(())
+}
+
+fn are_places(plan: &Plan) -> bool {
+    stands(plan, 0, &[1, 0, 0, 0], Place::At(2))
+        && stands(plan, 2, &[4], Place::At(10))
+        && stands(plan, 1, &[5], Place::Zero)
+        && stands(plan, 3, &[7], Place::Beyond)
 }
 
 #[test]
 fn a_key_stands_at_its_rank_or_nowhere(rt: HostRuntime) -> Result<(), Fail> {
     let plan = plan_of_wk(rt.alloc(), 3)?;
-    assert!(rt; plan.rank_of(&key(0, &[1, 0, 0, 0])?) == Place::At(2));
-    assert!(rt; plan.rank_of(&key(2, &[4])?) == Place::At(10));
-    assert!(rt; plan.rank_of(&key(1, &[5])?) == Place::Zero);
-    assert!(rt; plan.rank_of(&key(3, &[7])?) == Place::Beyond);
+    assert!(rt; are_places(&plan));
     Ok(())
 }
 
 #[test]
 fn an_index_is_below_dim(rt: HostRuntime) -> Result<(), Fail> {
-    let small = graded(rt.alloc(), 2, false)?;
-    let plan = Plan::make(rt.alloc(), small, 3).map_err(|_| "plan")?;
-    assert!(rt; plan.rank_of(&key(1, &[1])?) == Place::At(1));
-    assert!(rt; plan.rank_of(&key(1, &[2, 0])?) == Place::BadIndex);
+    let plan = planned(rt.alloc(), graded(rt.alloc(), 2, false)?, 3)?;
+    assert!(rt; stands(&plan, 1, &[1], Place::At(1)));
+    assert!(rt; stands(&plan, 1, &[2, 0], Place::BadIndex));
     Ok(())
+}
+
+/// Whether tensors of this dim have no plan up to the bound since it is 0 or above 24, and come back.
+fn is_bound_refused(alloc: Global, tensors: Tensors, bound: u8, dim: u8) -> bool {
+    match Plan::make(alloc, tensors, bound) {
+        Err(
+            PlanErr {
+                cause: PlanCause::Bound { got },
+                tensors,
+            },
+        ) => got == bound && tensors.dim() == dim,
+        _ => false,
+    }
 }
 
 #[test]
 fn a_bound_is_from_1_to_24(rt: HostRuntime) -> Result<(), Fail> {
     for bound in [0, 25, 255] {
         let tensors = graded(rt.alloc(), 3, false)?;
-        let Err(
-            PlanErr {
-                cause: PlanCause::Bound { got },
-                tensors,
-            },
-        ) = Plan::make(rt.alloc(), tensors, bound)
-        else {
-            return Err(Fail::from("no refusal"));
-        };
-        assert!(rt; got == bound && tensors.dim() == 3);
+        assert!(rt; is_bound_refused(rt.alloc(), tensors, bound, 3));
     }
     Ok(())
+}
+
+/// Whether tensors of this dim have no plan since the keys up to that level are too many, and come back.
+fn is_level_refused(alloc: Global, tensors: Tensors, level: u8, dim: u8) -> bool {
+    match Plan::make(alloc, tensors, level) {
+        Err(
+            PlanErr {
+                cause: PlanCause::Cells { level: found },
+                tensors,
+            },
+        ) => found == level && tensors.dim() == dim,
+        _ => false,
+    }
 }
 
 #[test]
 fn a_plan_has_at_most_200_000_keys(rt: HostRuntime) -> Result<(), Fail> {
     let dense = ungraded(rt.alloc(), 32)?;
-    let Err(
-        PlanErr {
-            cause: PlanCause::Cells { level },
-            tensors,
-        },
-    ) = Plan::make(rt.alloc(), dense, 3)
-    else {
-        return Err(Fail::from("no refusal"));
-    };
-    assert!(rt; level == 3 && tensors.dim() == 32);
+    assert!(rt; is_level_refused(rt.alloc(), dense, 3, 32));
     Ok(())
+}
+
+/// Whether the key of genus 1 with those indices has this power of the letter.
+fn has_power(plan: &Plan, indices: &[u8], power: u16) -> bool {
+    match Key::of(1, indices) {
+        Ok(key) => plan.letter(&key) == power,
+        Err(_) => false,
+    }
 }
 
 #[test]
 fn a_key_has_its_power_of_the_letter(rt: HostRuntime) -> Result<(), Fail> {
-    for letter in [false, true] {
-        let tensors = graded(rt.alloc(), 3, letter)?;
-        let plan = Plan::make(rt.alloc(), tensors, 2).map_err(|_| "plan")?;
-        let power = if letter { 2 } else { 0 };
-        assert!(rt; plan.letter(&key(1, &[0, 0])?) == power);
-        assert!(rt; plan.letter(&key(1, &[2, 2])?) == 0);
+    for (letter, power) in [(false, 0), (true, 2)] {
+        let plan = planned(rt.alloc(), graded(rt.alloc(), 3, letter)?, 2)?;
+        assert!(rt; has_power(&plan, &[0, 0], power));
+        assert!(rt; has_power(&plan, &[2, 2], 0));
     }
     Ok(())
 }
@@ -237,46 +282,50 @@ fn products_of_all(plan: &Plan) -> u64 {
 }
 
 /// Puts the entries of C whose first two indices are i and j.
-fn put_c_with(t: &mut Tensors, i: u8, j: u8) -> Result<(), Fail> {
+fn put_c_with(t: &mut Tensors, i: u8, j: u8) -> Result<(), PutErr> {
     for k in 0..3 {
         if j <= k {
-            t.put_c(i, j, k, Frac::whole(1)).map_err(|_| "c")?;
+            t.put_c(i, j, k, Frac::whole(1))?;
         }
     }
     Ok(())
 }
 
-/// Tensors of dim 3 with all entries of C.
-fn with_all_c(tensors: Tensors) -> Result<Tensors, Fail> {
-    let mut tensors = tensors;
+/// Puts all entries of C at indices below 3.
+fn put_all_c(t: &mut Tensors) -> Result<(), PutErr> {
     for i in 0..3 {
         for j in 0..3 {
-            put_c_with(&mut tensors, i, j)?;
+            put_c_with(t, i, j)?;
         }
     }
-    Ok(tensors)
+    Ok(())
+}
+
+/// The plan of tensors of dim 3 with all entries of C.
+fn planned_with_all_c(alloc: Global, tensors: Tensors, bound: u8) -> Result<Plan, Fail> {
+    let mut tensors = tensors;
+    put_all_c(&mut tensors)?;
+    planned(alloc, tensors, bound)
 }
 
 // The numbers of products are those of a program that tries all splits of all keys.
 #[test]
 fn the_walk_meets_the_products_of_an_exact_shape(rt: HostRuntime) -> Result<(), Fail> {
     let plan = plan_of_wk(rt.alloc(), 7)?;
-    assert_eq!(rt; products_of_all(&plan), 677);
+    assert!(rt; products_of_all(&plan) == 677);
     Ok(())
 }
 
 #[test]
 fn the_walk_meets_the_products_up_to_a_sum(rt: HostRuntime) -> Result<(), Fail> {
-    let tensors = with_all_c(graded(rt.alloc(), 3, true)?)?;
-    let plan = Plan::make(rt.alloc(), tensors, 5).map_err(|_| "plan")?;
-    assert_eq!(rt; products_of_all(&plan), 1167);
+    let plan = planned_with_all_c(rt.alloc(), graded(rt.alloc(), 3, true)?, 5)?;
+    assert!(rt; products_of_all(&plan) == 1167);
     Ok(())
 }
 
 #[test]
 fn the_walk_meets_the_products_without_a_law(rt: HostRuntime) -> Result<(), Fail> {
-    let tensors = with_all_c(ungraded(rt.alloc(), 3)?)?;
-    let plan = Plan::make(rt.alloc(), tensors, 3).map_err(|_| "plan")?;
-    assert_eq!(rt; products_of_all(&plan), 1890);
+    let plan = planned_with_all_c(rt.alloc(), ungraded(rt.alloc(), 3)?, 3)?;
+    assert!(rt; products_of_all(&plan) == 1890);
     Ok(())
 }

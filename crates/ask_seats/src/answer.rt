@@ -1,7 +1,8 @@
-ghost use Rattle.std.specs.Prelude.{◌≡◌, ◌≤◌, ◌++◌, codes, length, take};
+ghost use Rattle.std.specs.Prelude.{◌≡◌, ◌≤◌, ◌+◌, ◌++◌, codes, length};
 ghost use Rattle.ask_seats.specs.Replies.{reply_of, reply_text, line_text};
 
-use airy_index::{Key, put};
+use airy_index::Key;
+use airy_io::LineText;
 use amp_terms::write_value;
 use frac128::Frac;
 
@@ -25,39 +26,41 @@ pub enum Answer {
 }
 
 impl Answer {
-    /// Writes the answer without its line feed, and answers the length of the text.
+    /// The answer's line.
+    #[tactic(auto, unfolding(crate::specs::Replies::line_text))]
+    pub fn line(&self) -> LineText
+        ensures { result ≡ line_text (reply_of self.now) }
+    {
+        let mut line = LineText::new();
+        self.put_text(&mut line);
+        line.put(b"\n");
+        line
+    }
+
+    /// Puts the answer's text at the end of a line, without its line feed.
     #[tactic(auto, unfolding(crate::specs::Replies::reply_of, crate::specs::Replies::reply_text))]
-    fn write_text(&self, into: &mut [u8; 160]) -> usize
-        ensures within { result ≤ 150 }
-        ensures text { take result into.new ≡ reply_text (reply_of self.now) }
+    fn put_text(&self, line: &mut LineText)
+        requires { length line.old + 150 ≤ 512 }
+        ensures text { line.new ≡ line.old ++ reply_text (reply_of self.now) }
+        ensures short { length line.new ≤ length line.old + 150 }
     {
         match self {
             Answer::Value(value, power) => {
                 let mut number = [0u8; 96];
                 let end = write_value(*value, *power, &mut number);
-                put(into, 0, &number[..end])
+                line.put(&number[..end]);
             }
-            Answer::Zero => put(into, 0, b"zero"),
-            Answer::Over => put(into, 0, b"over"),
+            Answer::Zero => line.put(b"zero"),
+            Answer::Over => line.put(b"over"),
             Answer::Blocked(key) => {
                 let mut name = [0u8; 128];
                 let end = key.write_into(&mut name);
-                let at = put(into, 0, b"rests on ");
-                put(into, at, &name[..end])
+                line.put(b"rests on ");
+                line.put(&name[..end]);
             }
-            Answer::NotYet { word: _ } => put(into, 0, b"not yet"),
-            Answer::Beyond => put(into, 0, b"beyond"),
-            Answer::BadIndex => put(into, 0, b"no such index"),
+            Answer::NotYet { word: _ } => line.put(b"not yet"),
+            Answer::Beyond => line.put(b"beyond"),
+            Answer::BadIndex => line.put(b"no such index"),
         }
-    }
-
-    /// Writes the answer's line, and answers its length.
-    #[tactic(auto, unfolding(crate::specs::Replies::line_text))]
-    pub fn write_line(&self, into: &mut [u8; 160]) -> usize
-        ensures within { result ≤ 160 }
-        ensures text { take result into.new ≡ line_text (reply_of self.now) }
-    {
-        let end = self.write_text(into);
-        put(into, end, b"\n")
     }
 }

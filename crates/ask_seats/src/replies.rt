@@ -22,7 +22,8 @@ fn hear<B: Cells>(asker: &mut Asker<'_, B>, alone: bool, key: &Key) -> Answer
     ensures seat { B.IsSeat asker.new.board.now asker.new.seat }
     ensures standing { B.standing asker.new.seat ≡ B.standing asker.old.seat }
     ensures keeps { (r : ℕ) → B.Knows asker.old.seat r → B.Knows asker.new.seat r }
-    ensures hears { Hears (B.plan_of asker.old.board.now) alone key.now (B.Knows asker.old.seat) (B.Knows asker.new.seat) (reply_of result) }
+    ensures hears { Hears (B.plan_of asker.old.board.now) alone key.now (B.Knows asker.old.seat) (B.Knows asker.new.seat)
+        (reply_of result) }
 {
     if alone {
         if let Place::At(_) = asker.board.plan().rank_of(key) {
@@ -51,9 +52,7 @@ fn reply<B: Cells, W: Sink>(
 {
     key.validity_fact();
     let answer = hear(asker, alone, key);
-    let mut line = [0u8; 160];
-    let end = answer.write_line(&mut line);
-    write_all(out, &line[..end])
+    write_all(out, answer.line().bytes())
 }
 
 /// The same of a line that asks.
@@ -92,10 +91,10 @@ pub(crate) fn answer_all<B: Cells, W: Sink>(
     ensures seat { B.IsSeat asker.new.board.now asker.new.seat }
     ensures standing { B.standing asker.new.seat ≡ B.standing asker.old.seat }
     ensures keeps { (r : ℕ) → B.Knows asker.old.seat r → B.Knows asker.new.seat r }
-    ensures written { OnOk result ((crew : ℕ) → Writes (B.plan_of asker.old.board.now) crew alone (B.Knows asker.old.seat) (B.Knows asker.new.seat)
-        lines.now (W.state out.old).taken (W.state out.new).taken) }
-    ensures cut { OnErr result ((crew : ℕ) → Breaks (B.plan_of asker.old.board.now) crew alone (B.Knows asker.old.seat)
-        lines.now (W.state out.old).taken (W.state out.new).taken) }
+    ensures written { OnOk result ((crew : ℕ) → Writes (B.plan_of asker.old.board.now) crew alone
+        (B.Knows asker.old.seat) (B.Knows asker.new.seat) lines.now (W.state out.old).taken (W.state out.new).taken) }
+    ensures cut { OnErr result ((crew : ℕ) → Breaks (B.plan_of asker.old.board.now) crew alone
+        (B.Knows asker.old.seat) lines.now (W.state out.old).taken (W.state out.new).taken) }
     ensures cause { HasCause (W.state out.old).faults (W.state out.new).faults result }
 {
     asker.board.plan().planned_fact();

@@ -62,10 +62,10 @@ fn answer_beside<R: Threads + Sync, G: Gate + Sync, W: Sink>(
     ensures board { asker.new.board ≡ asker.old.board }
     ensures seat { IsSeatOf board.now asker.new.seat }
     ensures standing { standing_of asker.new.seat ≡ standing_of asker.old.seat }
-    ensures written { OnOk result.1 (Writes (plan_of board.now) (vec_len crew) (nat_eq (vec_len crew) 0) (Knows asker.old.seat) (Knows asker.new.seat)
-        lines.now (W.state out.old).taken (W.state out.new).taken) }
-    ensures cut { OnErr result.1 (Breaks (plan_of board.now) (vec_len crew) (nat_eq (vec_len crew) 0) (Knows asker.old.seat)
-        lines.now (W.state out.old).taken (W.state out.new).taken) }
+    ensures written { OnOk result.1 (Writes (plan_of board.now) (vec_len crew) (nat_eq (vec_len crew) 0)
+        (Knows asker.old.seat) (Knows asker.new.seat) lines.now (W.state out.old).taken (W.state out.new).taken) }
+    ensures cut { OnErr result.1 (Breaks (plan_of board.now) (vec_len crew) (nat_eq (vec_len crew) 0)
+        (Knows asker.old.seat) lines.now (W.state out.old).taken (W.state out.new).taken) }
     ensures cause { HasCause (W.state out.old).faults (W.state out.new).faults result.1 }
 {
     let alone = crew.len() == 0;
@@ -81,9 +81,11 @@ fn answer_beside<R: Threads + Sync, G: Gate + Sync, W: Sink>(
             ensures seat { IsSeatOf asker.exit.now.board.now asker.exit.now.seat }
             ensures standing { standing_of asker.exit.now.seat ≡ standing_of asker.entry.now.seat }
             ensures written { OnOk result ((crew : ℕ) → Writes (plan_of asker.entry.now.board.now) crew alone
-                (Knows asker.entry.now.seat) (Knows asker.exit.now.seat) lines.entry.now (W.state out.entry.now).taken (W.state out.exit.now).taken) }
+                (Knows asker.entry.now.seat) (Knows asker.exit.now.seat) lines.entry.now
+                (W.state out.entry.now).taken (W.state out.exit.now).taken) }
             ensures cut { OnErr result ((crew : ℕ) → Breaks (plan_of asker.entry.now.board.now) crew alone
-                (Knows asker.entry.now.seat) lines.entry.now (W.state out.entry.now).taken (W.state out.exit.now).taken) }
+                (Knows asker.entry.now.seat) lines.entry.now
+                (W.state out.entry.now).taken (W.state out.exit.now).taken) }
             ensures cause { HasCause (W.state out.entry.now).faults (W.state out.exit.now).faults result }
         { answer_all(asker, alone, lines, out) },
     )

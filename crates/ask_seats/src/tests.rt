@@ -359,9 +359,7 @@ fn asked_while_filled(rt: HostRuntime) -> Result<(), Fail> {
 
 /// Whether an answer has this line.
 fn is_line(answer: &Answer, text: &[u8]) -> bool {
-    let mut line = [0u8; 160];
-    let end = answer.write_line(&mut line);
-    &line[..end] == text
+    answer.line().bytes() == text
 }
 
 #[test]

@@ -1,5 +1,5 @@
 -- The acts of a seat: those that are done, and the one that it is at.
-use Rattle.std.specs.Prelude.{◌≡◌, ℕ, ◌<◌, List, [], ◌∷◌, ◌++◌, map, length, Bool, true, Option, None, Some}
+use Rattle.std.specs.Prelude.{◌≡◌, ℕ, ◌<◌, List, [], ◌∷◌, ◌++◌, map, length, slice_index, Bool, true, Option, None, Some}
 use Rattle.amp_plan.specs.Plans.{Planning}
 use Rattle.amp_plan.specs.Needs.{dependents_at}
 use Rattle.cell_words.specs.Layout.{cells}
@@ -14,6 +14,10 @@ act_of r written filled signed freed = record { rank = r; written = written; fil
 -- the act of a rank that is filled and has signed all dependents
 abbrev pub done_act : Planning → ℕ → List ℕ → Act
 done_act p r freed = act_of r 4 true (length (dependents_at p r)) freed
+
+-- t is the dependent of the rank r at this place
+abbrev pub IsDependent : Planning → ℕ → ℕ → ℕ → Type 0
+IsDependent p r at t = (at < length (dependents_at p r)) × (t ≡ slice_index (dependents_at p r) at)
 
 -- each of the acts is filled and has signed all dependents
 unfoldable pub AreDone : Planning → List Act → Type 0

@@ -1,5 +1,6 @@
 -- The countdown board: cell r has the words 5r to 5r+4, a state word and four value words.
-use Rattle.std.specs.Prelude.{◌≡◌, ◌⊎◌, ℕ, zero, suc, ◌+◌, ◌*◌, ◌/◌, ◌<◌, ◌≤◌, List, [], ◌∷◌, ◌++◌, length, map, take, slice_index, Option, Some, None, Bool, true, false, not, ◌&&◌, nat_eq, nat_lt, cond, All}
+use Rattle.std.specs.Prelude.{◌≡◌, ◌⊎◌, ℕ, zero, suc, ◌+◌, ◌*◌, ◌/◌, ◌<◌, ◌≤◌, List, [], ◌∷◌, ◌++◌, length, map, take, slice_index}
+use Rattle.std.specs.Prelude.{Option, Some, None, Bool, true, false, not, ◌&&◌, nat_eq, nat_lt, cond, All}
 use mathlib.Core.Option.{some}
 use lib.ListN.{get_elem?}
 use Rattle.atomic_table.specs.Table.{State, Step, Me}
@@ -62,6 +63,10 @@ unsigned p b r = count_of (λ q. not (signs p b q r)) (needs_at p r)
 abbrev pub state_of : ℕ → Option Act → ℕ
 state_of n None = n
 state_of n (Some a) = cond a.filled FILLED CLAIMED
+
+-- the state word of r, where the view has all acts
+abbrev pub state_in : Planning → View → ℕ → ℕ
+state_in p v r = state_of (unsigned p (act_in v) r) (act_in v r)
 
 abbrev pub written_of : Option Act → ℕ
 written_of None = 0
@@ -134,20 +139,21 @@ abbrev pub first_portions : Planning → ℕ → List ℕ → List Portion
 first_portions p zero carried = []
 first_portions p (suc n) carried = record { number = 0; acts = map (carried_act p) carried } ∷ empty_from 1 n
 
-abbrev pub first_view : Planning → ℕ → List ℕ → View
-first_view p seats carried = record { plan = p; seats = seats; portions = first_portions p seats carried; seen = carried; looks = 0; latest = None }
-
+-- an empty view
 abbrev pub spent : View
 spent = record { plan = no_plan; seats = 0; portions = []; seen = []; looks = 0; latest = None }
+
+abbrev pub first_view : Planning → ℕ → List ℕ → View
+first_view p seats carried = record spent { plan = p; seats = seats; portions = first_portions p seats carried; seen = carried }
 
 abbrev pub M : Type 0
 M = Me (Unit {0}) View
 
 abbrev pub looked : ℕ → ℕ → View → View
-looked r n v = record { plan = v.plan; seats = v.seats; portions = v.portions; seen = cond (nat_eq n FILLED) (v.seen ++ r ∷ []) v.seen; looks = suc v.looks; latest = Some (r, n) }
+looked r n v = record v { seen = cond (nat_eq n FILLED) (v.seen ++ r ∷ []) v.seen; looks = suc v.looks; latest = Some (r, n) }
 
 abbrev pub with_portions : View → List Portion → View
-with_portions v ps = record { plan = v.plan; seats = v.seats; portions = ps; seen = v.seen; looks = v.looks; latest = v.latest }
+with_portions v ps = record v { portions = ps }
 
 abbrev pub fresh_act : ℕ → Act
 fresh_act r = record { rank = r; written = 0; filled = false; signed = 0; freed = [] }
@@ -167,16 +173,20 @@ abbrev pub with_act : ℕ → (Act → Act) → View → View
 with_act r f v = with_portions v (map (λ p. record { number = p.number; acts = change r f p.acts }) v.portions)
 
 abbrev pub write_more : Act → Act
-write_more a = record { rank = a.rank; written = suc a.written; filled = a.filled; signed = a.signed; freed = a.freed }
+write_more a = record a { written = suc a.written }
 
 abbrev pub fill_up : Act → Act
-fill_up a = record { rank = a.rank; written = a.written; filled = true; signed = a.signed; freed = a.freed }
+fill_up a = record a { filled = true }
+
+-- the freed ranks, and t where its state word was 1
+abbrev pub freed_with : ℕ → ℕ → List ℕ → List ℕ
+freed_with n t freed = cond (nat_eq n 1) (freed ++ t ∷ []) freed
 
 abbrev pub sign_one : ℕ → ℕ → Act → Act
-sign_one t n a = record { rank = a.rank; written = a.written; filled = a.filled; signed = suc a.signed; freed = cond (nat_eq n 1) (a.freed ++ t ∷ []) a.freed }
+sign_one t n a = record a { signed = suc a.signed; freed = freed_with n t a.freed }
 
 abbrev pub sees : ℕ → View → View
-sees r v = record { plan = v.plan; seats = v.seats; portions = v.portions; seen = v.seen ++ r ∷ []; looks = v.looks; latest = v.latest }
+sees r v = record v { seen = v.seen ++ r ∷ [] }
 
 -- the rank of the last act of the first portion
 abbrev pub last_rank : List Act → ℕ
@@ -218,7 +228,7 @@ Claimed s m n w =
     (w ≡ (cond (nat_eq n 0) (claimed (s.word / 5) m.0) (looked (s.word / 5) n m.0), m.1))
     × IsState n
     × (n ≡ 0 → (act_in m.0 (s.word / 5) ≡ None) × (length (acts_of m.0.portions) < cells m.0.plan))
-    × (IsWhole m.0 → n ≡ state_of (unsigned m.0.plan (act_in m.0) (s.word / 5)) (act_in m.0 (s.word / 5)))
+    × (IsWhole m.0 → n ≡ state_in m.0.plan m.0 (s.word / 5))
     × (IsWhole m.0 → (q : ℕ) → Known m.0 q → IsFilled (act_in m.0 q))
 
 abbrev pub Wrote : Step (Unit {0}) → M → ℕ → M → Type 0
@@ -246,10 +256,10 @@ abbrev pub left_part : View → View
 left_part v = with_portions v (tail_of v.portions)
 
 abbrev pub right_part : View → View
-right_part v = record { plan = v.plan; seats = v.seats; portions = head_of v.portions; seen = v.seen; looks = 0; latest = None }
+right_part v = record v { portions = head_of v.portions; looks = 0; latest = None }
 
 abbrev pub joined : View → View → View
-joined v w = record { plan = v.plan; seats = v.seats; portions = v.portions ++ w.portions; seen = v.seen ++ w.seen; looks = v.looks; latest = v.latest }
+joined v w = record v { portions = v.portions ++ w.portions; seen = v.seen ++ w.seen }
 
 -- Ranks that are carried over: with a rank all its needs, and the outcome of each is one of the program.
 pub record AreCarried (p : Planning) (carried : List ℕ) : Type 0 where
@@ -258,9 +268,13 @@ pub record AreCarried (p : Planning) (carried : List ℕ) : Type 0 where
   pub needs : (r q : ℕ) → has r carried ≡ true → has q (needs_at p r) ≡ true → has q carried ≡ true
   pub sized : (r : ℕ) → has r carried ≡ true → IsSized (outcome_at p r)
 
+-- how many needs of the rank aren't carried
+abbrev pub uncarried : Planning → List ℕ → ℕ → ℕ
+uncarried p carried r = count_of (λ q. not (has q carried)) (needs_at p r)
+
 -- The words at the start: a carried cell is filled, and the state of any other is the number of its needs that aren't carried.
 pub record IsOpening (p : Planning) (carried : List ℕ) (words : List ℕ) : Type 0 where
   pub long : 5 * cells p ≤ length words
   pub filled : (r : ℕ) → r < cells p → has r carried ≡ true → slice_index words (5 * r) ≡ FILLED
-  pub states : (r : ℕ) → r < cells p → has r carried ≡ false → slice_index words (5 * r) ≡ count_of (λ q. not (has q carried)) (needs_at p r)
+  pub states : (r : ℕ) → r < cells p → has r carried ≡ false → slice_index words (5 * r) ≡ uncarried p carried r
   pub values : (r k : ℕ) → r < cells p → k < 4 → slice_index words (5 * r + suc k) ≡ cond (has r carried) (code_of p r k) 0

@@ -5,7 +5,7 @@ use Rattle.amp_plan.specs.Needs.{has, needs_at}
 use Rattle.cell_words.specs.Layout.{cells}
 use Rattle.cell_words.specs.Countdown.{Known}
 use Rattle.cell_words.specs.Acts.{AreDone, ranks_of}
-use Rattle.cell_words.specs.Seats.{IsSeatOf, seats_of, number_of, held_of, done_of, view_of}
+use Rattle.cell_words.specs.Seats.{IsSeatOf, seats_of, number_of, held_of, done_of, view_of, EachSeat}
 use Rattle.cell_words.specs.declared.view.Portion.{Portion}
 use Rattle.cell_words.specs.declared.view.View.{View}
 use Rattle.cell_words.specs.declared.countdown.Countdown.{Countdown}
@@ -47,8 +47,8 @@ numbers_in ss = map number_of ss
 -- Seats of this board, none of which holds a rank: as many as there are, at least one.
 pub record AreSeats (b : Countdown) (ss : List CountSeat) : Type 0 where
   pub some : 0 < length ss
-  pub each : (j : ℕ) (d : CountSeat) → j < length ss → IsSeatOf b (slice_index_or ss j d)
-  pub free : (j : ℕ) (d : CountSeat) → j < length ss → held_of (slice_index_or ss j d) ≡ None
+  pub each : EachSeat (IsSeatOf b) ss
+  pub free : EachSeat (λ s. held_of s ≡ None) ss
 
 -- and they are all
 pub record AreAll (b : Countdown) (ss : List CountSeat) : Type 0 where
@@ -62,10 +62,14 @@ pub record AreTaken (old new : List CountSeat) : Type 0 where
   pub held : (j : ℕ) (d : CountSeat) → j < length old → held_of (slice_index_or new j d) ≡ held_of (slice_index_or old j d)
   pub done : (j : ℕ) (d : CountSeat) → j < length old → (slice_index_or new j d).done ≡ (slice_index_or old j d).done
 
+-- each portion can be the seat's at its place
+abbrev pub AreReady : Planning → List Portion → List CountSeat → Type 0
+AreReady p qs ss = (j : ℕ) (q : Portion) (d : CountSeat) → j < length ss → IsReady p (slice_index_or qs j q) (slice_index_or ss j d)
+
 -- A view that has the portions of the seats, in order, and has seen what they saw.
 pub record IsGathered (p : Planning) (ss : List CountSeat) (v : View) : Type 0 where
   pub many : length v.portions ≡ length ss
-  pub ready : (j : ℕ) (q : Portion) (d : CountSeat) → j < length ss → IsReady p (slice_index_or v.portions j q) (slice_index_or ss j d)
+  pub ready : AreReady p v.portions ss
   pub seen : (j : ℕ) (d : CountSeat) → j < length ss → (r : ℕ) → has r (view_of (slice_index_or ss j d)).seen ≡ true → has r v.seen ≡ true
 
 -- so it is for each of the seats, before and after

@@ -57,7 +57,8 @@ ShowsUnfilled v r = (n : ℕ) × (v.latest ≡ Some n) × (n < euler_of (key_at 
 abbrev pub Knows : LevelSeat → ℕ → Type 0
 Knows s r = r < cells_to s.place.me.0.plan s.place.me.0.count
 
--- The filler's seat of this board, with the outcomes of the first n ranks written, those of the published levels and perhaps some of the next.
+-- The filler's seat of this board, with the outcomes of the first n ranks written: those of the published levels, and perhaps some of the
+-- next.
 pub record IsFilling (b : Frontier) (n : ℕ) (f : FillSeat) : Type 0 where
   pub of : IsPlaceOf b f.place
   pub fills : f.place.me.0.role ≡ Filler

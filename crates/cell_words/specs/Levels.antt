@@ -78,20 +78,20 @@ Keeps s = Lawful s.words s.views
 
 -- an asker's load of the count
 abbrev pub looked : View → ℕ → View
-looked v n = record { role = v.role; plan = v.plan; count = n; written = v.written; looks = suc v.looks; latest = Some n }
+looked v n = record v { count = n; looks = suc v.looks; latest = Some n }
 
 -- the next value word is stored
 abbrev pub wrote : View → View
-wrote v = record { role = v.role; plan = v.plan; count = v.count; written = suc v.written; looks = v.looks; latest = v.latest }
+wrote v = record v { written = suc v.written }
 
 -- the count is raised
 abbrev pub raised : View → View
-raised v = record { role = v.role; plan = v.plan; count = suc v.count; written = 0; looks = v.looks; latest = v.latest }
+raised v = record v { count = suc v.count; written = 0 }
 
 -- a view is joined into another: an asker takes the greater count, a filler stays as it is
 abbrev pub joined_as : Role → View → View → View
 joined_as Filler v w = v
-joined_as Asker v w = record { role = v.role; plan = v.plan; count = max v.count w.count; written = v.written; looks = v.looks; latest = v.latest }
+joined_as Asker v w = record v { count = max v.count w.count }
 joined_as Spent v w = v
 
 abbrev pub joined : View → View → View
@@ -103,7 +103,11 @@ abbrev pub M : Type 0
 M = Me (Unit {0}) View
 
 abbrev pub Looked : Step (Unit {0}) → M → ℕ → M → Type 0
-Looked s m n w = (w ≡ (looked m.0 n, m.1)) × (m.0.count ≤ n) × (n ≤ m.0.plan.bound) × ((r : ℕ) → r < cells_to m.0.plan n → IsSized (outcome_at m.0.plan r))
+Looked s m n w =
+    (w ≡ (looked m.0 n, m.1))
+    × (m.0.count ≤ n)
+    × (n ≤ m.0.plan.bound)
+    × ((r : ℕ) → r < cells_to m.0.plan n → IsSized (outcome_at m.0.plan r))
 
 abbrev pub Wrote : Step (Unit {0}) → M → ℕ → M → Type 0
 Wrote s m n w = w ≡ (wrote m.0, m.1)

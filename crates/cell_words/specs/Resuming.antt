@@ -1,5 +1,6 @@
 -- Boards that begin with the outcomes of a table.
-use Rattle.std.specs.Prelude.{◌≡◌, ◌≤◌, ◌<◌, ◌*◌, ◌+◌, ℕ, suc, List, [], length, Option, None, Some, Bool, true, false, not, cond, nat_eq, slice_index, slice_index_or, get_or}
+use Rattle.std.specs.Prelude.{◌≡◌, ◌≤◌, ◌<◌, ◌*◌, ◌+◌, ℕ, suc, List, [], length, Option, None, Some, Bool, true, false, not, cond, nat_eq}
+use Rattle.std.specs.Prelude.{slice_index, get_or}
 use Rattle.std.specs.Option.{is_some}
 use Rattle.airy_math.specs.Sums.{keep, below}
 use Rattle.amp_plan.specs.Plans.{Planning}
@@ -8,7 +9,7 @@ use Rattle.amp_terms.specs.declared.Outcome.{Outcome}
 use Rattle.cell_words.specs.Layout.{cells, outcome_at, code_of}
 use Rattle.cell_words.specs.Words.{IsSized}
 use Rattle.cell_words.specs.Countdown.{FILLED, count_of}
-use Rattle.cell_words.specs.Seats.{IsSeatOf, number_of, held_of, done_of, view_of}
+use Rattle.cell_words.specs.Seats.{IsSeatOf, number_of, held_of, done_of, view_of, EachPlaced}
 use Rattle.cell_words.specs.declared.countdown.Countdown.{Countdown}
 use Rattle.cell_words.specs.declared.countdown.CountSeat.{CountSeat}
 
@@ -55,7 +56,7 @@ pub record IsNew (b : Countdown) (k : ℕ) (t : CountSeat) : Type 0 where
 
 -- the seats of a new board, and of one that was resumed, numbered from 0 in order
 abbrev pub AreNew : Countdown → ℕ → List CountSeat → Type 0
-AreNew b n ss = (k : ℕ) (d : CountSeat) → k < n → IsNew b k (slice_index_or ss k d)
+AreNew b n ss = EachPlaced (IsNew b) n ss
 
 abbrev pub AreBegun : Countdown → List ℕ → ℕ → List CountSeat → Type 0
-AreBegun b carried n ss = (k : ℕ) (d : CountSeat) → k < n → IsResumed b carried k (slice_index_or ss k d)
+AreBegun b carried n ss = EachPlaced (IsResumed b carried) n ss

@@ -1,5 +1,5 @@
 -- Seats of a countdown board.
-use Rattle.std.specs.Prelude.{◌≡◌, ◌≢◌, ◌≤◌, ℕ, ◌<◌, List, [], Option, None, Some, false, vec_capacity}
+use Rattle.std.specs.Prelude.{◌≡◌, ◌≢◌, ◌≤◌, ℕ, ◌<◌, List, [], length, slice_index_or, Option, None, Some, false, vec_capacity}
 use Rattle.atomic_table.specs.declared.shared.Seat.{Seat}
 use Rattle.amp_plan.specs.Plans.{Planning}
 use Rattle.cell_words.specs.Layout.{cells}
@@ -30,6 +30,18 @@ held_of s = s.held
 
 abbrev pub done_of : CountSeat → List ℕ
 done_of s = s.done.items
+
+-- so it is for each of the seats
+abbrev pub EachSeat : (CountSeat → Type 0) → List CountSeat → Type 0
+EachSeat P ss = (j : ℕ) (d : CountSeat) → j < length ss → P (slice_index_or ss j d)
+
+-- so it is for the first n seats, each with its place
+abbrev pub EachPlaced : (ℕ → CountSeat → Type 0) → ℕ → List CountSeat → Type 0
+EachPlaced P n ss = (k : ℕ) (d : CountSeat) → k < n → P k (slice_index_or ss k d)
+
+-- the same number, the same held rank and the same list of receipts
+abbrev pub IsSameSeat : CountSeat → CountSeat → Type 0
+IsSameSeat s t = (t.number ≡ s.number) × (t.held ≡ s.held) × (t.done ≡ s.done)
 
 -- the list of receipts is the same
 abbrev pub HasSameDone : CountSeat → CountSeat → Type 0

@@ -67,7 +67,8 @@ impl Countdown {
         ensures seats { AreAll self.now seats.new }
         ensures len { length seats.new ≡ length seats.old }
         ensures after { EachIs (IsAfter rank) seats.old seats.new }
-        ensures fills { (d : CountSeat) → has rank (receipts_of seats.old) ≡ false → first_receipt seats.new d ≡ first_receipt seats.old d ++ rank ∷ [] }
+        ensures fills { (d : CountSeat) → has rank (receipts_of seats.old) ≡ false
+            → first_receipt seats.new d ≡ first_receipt seats.old d ++ rank ∷ [] }
         ensures stays { (d : CountSeat) → has rank (receipts_of seats.old) ≡ true → first_receipt seats.new d ≡ first_receipt seats.old d }
         ensures others { OthersAre HasSameDone seats.old seats.new }
     {

@@ -62,5 +62,6 @@ pub trait Cells {
         ensures looks { looks seat.new ≡ looks seat.old + 1 }
         ensures looked { LookedAt seat.new rank }
         ensures keeps { (r : ℕ) → Knows seat.old r → Knows seat.new r }
-        ensures answer { Answers (plan_of self.now) rank (Knows seat.old) (Knows seat.new) (ShowsUnfilled seat.new) (latest seat.new) result };
+        ensures answer { Answers (plan_of self.now) rank (Knows seat.old) (Knows seat.new)
+            (ShowsUnfilled seat.new) (latest seat.new) result };
 }

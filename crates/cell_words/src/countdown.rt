@@ -23,7 +23,8 @@ pub struct Countdown {
     ghost some_seat: { 0 < base.seats },
     ghost starts: { ready.items ≡ starts base.plan base.carried.items },
     ghost spare: { (blank ≡ replicate (cells base.plan) None) × (vec_len receipts ≡ base.seats) },
-    ghost sized: { (5 * cells base.plan ≤ table.shared.table_id.words) × (0 < table.shared.table_id.words) × (table.shared.table_id.slots ≡ 0) × (cells base.plan ≤ 200000) },
+    ghost sized: { (5 * cells base.plan ≤ table.shared.table_id.words) × (0 < table.shared.table_id.words)
+        × (table.shared.table_id.slots ≡ 0) × (cells base.plan ≤ 200000) },
 }
 
 /// One caller's token on one countdown board.

@@ -1,10 +1,9 @@
 // How a board begins.
-ghost use Rattle.std.specs.Prelude.{◌≡◌, ℕ, ◌+◌, ◌*◌, ◌<◌, ◌≤◌, length, replicate, IfOk, IfErr, slice_index_or, vec_len, vec_capacity, None, cond, nat_eq, []};
+ghost use Rattle.std.specs.Prelude.{◌≡◌, ◌+◌, ◌*◌, ◌<◌, ◌≤◌, length, replicate, IfOk, IfErr, vec_len, vec_capacity, None, cond, nat_eq, []};
 ghost use Rattle.cell_words.specs.Layout.{cells};
-ghost use Rattle.cell_words.specs.declared.countdown.CountSeat.{CountSeat};
 ghost use Rattle.cell_words.specs.Deals.{IsBlank, AreAll};
 ghost use Rattle.cell_words.specs.Resuming.{carried_in, CanResume, AreResumed, AreBegun};
-ghost use Rattle.cell_words.specs.Seats.{plan_of, seats_of, carried_of};
+ghost use Rattle.cell_words.specs.Seats.{plan_of, seats_of, carried_of, EachPlaced};
 ghost use Rattle.cell_words.specs.Starts.{starts};
 
 use crate::closed::{BoardErr, ResumeErr};
@@ -41,7 +40,7 @@ fn blank_seats(
 ) -> Result<Vec<CountSeat>, AllocError>
     requires { length table.now ≤ room }
     ensures len { IfOk result (λ v. vec_len v ≡ seats) }
-    ensures blank { IfOk result (λ v. (k : ℕ) (d : CountSeat) → k < seats → IsBlank room (carried_in table.now) k (slice_index_or v.items k d)) }
+    ensures blank { IfOk result (λ v. EachPlaced (IsBlank room (carried_in table.now)) seats v.items) }
 {
     let mut all = Vec::with_capacity(alloc, seats as usize)?;
     for number in 0..seats {
@@ -84,7 +83,7 @@ fn make_room(alloc: Global, plan: &Plan, table: &Table, seats: u8) -> Result<Roo
     ensures long { IfOk result (λ p. 5 * cells plan.now ≤ vec_len p.words) }
     ensures words { IfOk result (λ p. AreResumed plan.now table.now (cells plan.now) p.words.items) }
     ensures len { IfOk result (λ p. vec_len p.seats ≡ seats) }
-    ensures seats { IfOk result (λ p. (k : ℕ) (d : CountSeat) → k < seats → IsBlank (cells plan.now) (carried_in table.now) k (slice_index_or p.seats.items k d)) }
+    ensures seats { IfOk result (λ p. EachPlaced (IsBlank (cells plan.now) (carried_in table.now)) seats p.seats.items) }
     ensures carried { IfOk result (λ p. p.carried.items ≡ carried_in table.now) }
     ensures blank { IfOk result (λ p. p.blank ≡ replicate (cells plan.now) None) }
     ensures receipts { IfOk result (λ p. vec_len p.receipts ≡ seats) }

@@ -24,7 +24,8 @@ impl Seen for Reader<'_> {
 
     ghost made_over = { λ r. (r.seat.ghost_name, r.seat.now) };
 
-    ghost has = { λ r k. HasToken r.board.now r.seat.now.place × Known (view_of r.seat.now) k × (k < r.rank) × (r.rank < cells (plan_of r.board.now)) };
+    ghost has = { λ r k. HasToken r.board.now r.seat.now.place × Known (view_of r.seat.now) k
+        × (k < r.rank) × (r.rank < cells (plan_of r.board.now)) };
 
     ghost shown = { λ r. lower_outcomes (plan_of r.board.now) r.rank };
 

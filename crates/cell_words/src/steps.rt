@@ -1,18 +1,16 @@
 // The countdown board's single steps.
-ghost use Rattle.std.specs.Prelude.{◌≡◌, ℕ, None, ◌+◌, ◌*◌, ◌^◌, ◌<◌, ◌≤◌, ◌++◌, List, [], ◌∷◌, length, slice_index, cond, nat_eq, Some, false, true};
-ghost use Rattle.amp_plan.specs.Needs.{dependents_at};
+ghost use Rattle.std.specs.Prelude.{◌≡◌, ℕ, None, ◌+◌, ◌*◌, ◌<◌, ◌++◌, List, [], ◌∷◌, length, cond, nat_eq, false, true};
 ghost use Rattle.cell_words.specs.Layout.{cells, code_of, outcome_at};
 ghost use Rattle.cell_words.specs.Words.{IsSized};
-ghost use Rattle.cell_words.specs.Countdown.{FILLED, Known, looked, claimed, with_act, write_more, fill_up, sign_one, sees, tail_of};
-ghost use Rattle.cell_words.specs.Acts.{act_of};
+ghost use Rattle.cell_words.specs.Countdown.{FILLED, Known, looked, claimed, freed_with, tail_of};
+ghost use Rattle.cell_words.specs.Acts.{act_of, IsDependent};
 
 use crate::countdown::{CLAIMED_WORD, CountSeat, Countdown, FILLED_WORD};
 use crate::plays::{Exchange, Load, Mark, Sign, Word, Write};
 
 impl Countdown {
-    ghost use Rattle.std.specs.Prelude.{◌++◌};
-    ghost use Rattle.cell_words.specs.Seats.{HasToken, IsAtAct, IsResting, view_of, plan_of};
-    ghost use Rattle.cell_words.specs.Countdown.{act_in, acts_of, state_of, unsigned, IsState, IsWhole, IsFilled};
+    ghost use Rattle.cell_words.specs.Seats.{HasToken, IsAtAct, IsResting, IsSameSeat, view_of, plan_of};
+    ghost use Rattle.cell_words.specs.Countdown.{act_in, acts_of, state_in, IsState, IsWhole, IsFilled};
 
     /// One load of the state word.
     pub(crate) fn load(&self, seat: &mut CountSeat, rank: u32) -> u64
@@ -21,7 +19,7 @@ impl Countdown {
         ensures token { HasToken self.now seat.new.place }
         ensures view { view_of seat.new ≡ looked rank result (view_of seat.old) }
         ensures honest { Known (view_of seat.old) rank → result ≡ FILLED }
-        ensures kept { (seat.new.number ≡ seat.old.number) × (seat.new.held ≡ seat.old.held) × (seat.new.done ≡ seat.old.done) }
+        ensures kept { IsSameSeat seat.old seat.new }
     {
         let Some(place) = &mut seat.place else {
             unreachable!()
@@ -37,10 +35,10 @@ impl Countdown {
         ensures view { view_of seat.new ≡ cond (nat_eq result 0) (claimed rank (view_of seat.old)) (looked rank result (view_of seat.old)) }
         ensures state { IsState result }
         ensures free { result ≡ 0 → act_in (view_of seat.old) rank ≡ None }
-        ensures whole { IsWhole (view_of seat.old) → result ≡ state_of (unsigned (plan_of self.now) (act_in (view_of seat.old)) rank) (act_in (view_of seat.old) rank) }
+        ensures whole { IsWhole (view_of seat.old) → result ≡ state_in (plan_of self.now) (view_of seat.old) rank }
         ensures filled { IsWhole (view_of seat.old) → (q : ℕ) → Known (view_of seat.old) q → IsFilled (act_in (view_of seat.old) q) }
         ensures few { result ≡ 0 → length (acts_of (view_of seat.old).portions) < cells (plan_of self.now) }
-        ensures kept { (seat.new.number ≡ seat.old.number) × (seat.new.held ≡ seat.old.held) × (seat.new.done ≡ seat.old.done) }
+        ensures kept { IsSameSeat seat.old seat.new }
     {
         let Some(place) = &mut seat.place else {
             unreachable!()
@@ -59,7 +57,7 @@ impl Countdown {
         ensures act { IsAtAct self.now seat.new (act_of rank (at + 1) false 0 []) }
         ensures seen { (view_of seat.new).seen ≡ (view_of seat.old).seen }
         ensures others { tail_of (view_of seat.new).portions ≡ tail_of (view_of seat.old).portions }
-        ensures kept { (seat.new.number ≡ seat.old.number) × (seat.new.held ≡ seat.old.held) × (seat.new.done ≡ seat.old.done) }
+        ensures kept { IsSameSeat seat.old seat.new }
     {
         let Some(place) = &mut seat.place else {
             unreachable!()
@@ -75,7 +73,7 @@ impl Countdown {
         ensures act { IsAtAct self.now seat.new (act_of rank 4 true 0 []) }
         ensures seen { (view_of seat.new).seen ≡ (view_of seat.old).seen ++ rank ∷ [] }
         ensures others { tail_of (view_of seat.new).portions ≡ tail_of (view_of seat.old).portions }
-        ensures kept { (seat.new.number ≡ seat.old.number) × (seat.new.held ≡ seat.old.held) × (seat.new.done ≡ seat.old.done) }
+        ensures kept { IsSameSeat seat.old seat.new }
     {
         let Some(place) = &mut seat.place else {
             unreachable!()
@@ -88,11 +86,12 @@ impl Countdown {
     /// The state word of the next dependent is lowered by 1. The answer is what it was.
     pub(crate) fn sign(&self, seat: &mut CountSeat, rank: u32, at: usize, next: u32) -> u64
         requires act { (freed : List ℕ) × IsAtAct self.now seat.old (act_of rank 4 true at freed) }
-        requires next { (at < length (dependents_at (plan_of self.now) rank)) × (next ≡ slice_index (dependents_at (plan_of self.now) rank) at) }
-        ensures act { (freed : List ℕ) → IsAtAct self.now seat.old (act_of rank 4 true at freed) → IsAtAct self.now seat.new (act_of rank 4 true (at + 1) (cond (nat_eq result 1) (freed ++ next ∷ []) freed)) }
+        requires next { IsDependent (plan_of self.now) rank at next }
+        ensures act { (freed : List ℕ) → IsAtAct self.now seat.old (act_of rank 4 true at freed)
+            → IsAtAct self.now seat.new (act_of rank 4 true (at + 1) (freed_with result next freed)) }
         ensures seen { (view_of seat.new).seen ≡ (view_of seat.old).seen }
         ensures others { tail_of (view_of seat.new).portions ≡ tail_of (view_of seat.old).portions }
-        ensures kept { (seat.new.number ≡ seat.old.number) × (seat.new.held ≡ seat.old.held) × (seat.new.done ≡ seat.old.done) }
+        ensures kept { IsSameSeat seat.old seat.new }
     {
         let Some(place) = &mut seat.place else {
             unreachable!()

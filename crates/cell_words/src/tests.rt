@@ -1,10 +1,12 @@
-ghost use Rattle.std.specs.Prelude.{◌≡◌, ◌<◌, ◌≤◌, ◌*◌, Some, None, IfOk, cond, length, vec_len};
+ghost use Rattle.std.specs.Prelude.{◌≡◌, ◌<◌, ◌≤◌, ◌*◌, ◌-◌, Some, None, IfOk, IsTrue, cond, length, vec_len};
 ghost use Rattle.cell_words.specs.Layout.{cells};
 ghost use Rattle.cell_words.specs.Resuming.{IsNew};
-ghost use Rattle.cell_words.specs.LevelSeats.{IsAsker, plan_of as level_plan};
+ghost use Rattle.cell_words.specs.LevelSeats.{IsAsker, IsFiller, plan_of as level_plan};
 ghost use Rattle.cell_words.specs.Seats.{IsSeatOf, plan_of, seats_of, held_of, number_of};
 
-use crate::{Cells, Claim, Closed, CountSeat, Countdown, Frontier, LevelSeat, Look, level_sweep};
+use crate::{
+    Cells, Claim, Closed, CountSeat, Countdown, FillSeat, Frontier, LevelSeat, Look, level_sweep,
+};
 use airy_index::{Law, Shape};
 use amp_plan::Plan;
 use amp_terms::{Outcome, one_thread};
@@ -14,33 +16,38 @@ use std::alloc::Global;
 use std::test::Fail;
 use std::thread::join;
 
-/// The tensors of Witten and Kontsevich with all indices up to 2.
-#[tactic(auto, unfolding(sparse_tensor::specs::Grades::IsSmallLaw))]
-fn wk_2(alloc: Global) -> Result<Tensors, Fail> {
-    let shape = Shape::Exact(Law { per_g: 3, per_n: 1 });
-    let mut t = Tensors::empty(alloc, 3, shape, false).map_err(|_| "tensors")?;
-    t.put_a(0, 0, 0, Frac::whole(1)).map_err(|_| "a")?;
-    t.put_d(1, Frac::new(1, 8).map_err(|_| "1/8")?)
-        .map_err(|_| "d")?;
-    t.put_c(2, 0, 0, Frac::whole(1)).map_err(|_| "c")?;
+/// What a call made.
+fn made<T, E: Drop>(answer: Result<T, E>) -> Result<T, Fail> {
+    match answer {
+        Ok(it) => Ok(it),
+        Err(_) => Err(Fail::from("no answer")),
+    }
+}
+
+/// Puts the entries of Witten and Kontsevich with all indices up to 2.
+fn put_wk_2(t: &mut Tensors) -> Result<(), Fail> {
+    made(t.put_a(0, 0, 0, Frac::whole(1)))?;
+    made(t.put_d(1, made(Frac::new(1, 8))?))?;
+    made(t.put_c(2, 0, 0, Frac::whole(1)))?;
     for i in 0..3u8 {
         for j in 0..3u8 {
             if i + j >= 1 && i + j <= 3 {
-                t.put_b(i, j, i + j - 1, Frac::whole(2 * i64::from(j) + 1))
-                    .map_err(|_| "b")?;
+                made(t.put_b(i, j, i + j - 1, Frac::whole(2 * i64::from(j) + 1)))?;
             }
         }
     }
-    Ok(t)
+    Ok(())
 }
 
-/// The plan over them: 0,3 [0 0 0], 1,1 [1], 0,4 [0 0 0 1], 1,2 [0 2] and 1,2 [1 1].
+/// The plan over them up to 2: 0,3 [0 0 0], 1,1 [1], 0,4 [0 0 0 1], 1,2 [0 2] and 1,2 [1 1].
+#[tactic(auto, unfolding(sparse_tensor::specs::Grades::IsSmallLaw))]
 fn five_cells(alloc: Global) -> Result<Plan, Fail>
     ensures { IfOk result (λ p. cells p ≡ 5) }
 {
-    let Ok(plan) = Plan::make(alloc, wk_2(alloc)?, 2) else {
-        return Err(Fail::from("plan"));
-    };
+    let shape = Shape::Exact(Law { per_g: 3, per_n: 1 });
+    let mut t = made(Tensors::empty(alloc, 3, shape, false))?;
+    put_wk_2(&mut t)?;
+    let plan = made(Plan::make(alloc, t, 2))?;
     if plan.len() != 5 {
         return Err(Fail::from("cells"));
     }
@@ -51,26 +58,27 @@ fn five_cells(alloc: Global) -> Result<Plan, Fail>
 #[tactic(auto, unfolding(sparse_tensor::specs::Grades::IsSmallLaw))]
 fn no_cells(alloc: Global) -> Result<Plan, Fail> {
     let shape = Shape::Exact(Law { per_g: 0, per_n: 1 });
-    let t = Tensors::empty(alloc, 1, shape, false).map_err(|_| "tensors")?;
-    Ok(Plan::make(alloc, t, 1).map_err(|_| "plan")?)
+    let t = made(Tensors::empty(alloc, 1, shape, false))?;
+    made(Plan::make(alloc, t, 1))
 }
 
-/// A board of five cells with two seats.
-fn two_seats(alloc: Global) -> Result<(Countdown, CountSeat, CountSeat), Fail>
+/// A board of five cells with so many seats, and the last two of them.
+fn last_seats(alloc: Global, many: u8) -> Result<(Countdown, CountSeat, CountSeat), Fail>
+    requires { (2 ≤ many) × (many ≤ 32) }
     ensures five { IfOk result (λ t. cells (plan_of t.0) ≡ 5) }
-    ensures two { IfOk result (λ t. seats_of t.0 ≡ 2) }
-    ensures first { IfOk result (λ t. IsNew t.0 0 t.1) }
-    ensures second { IfOk result (λ t. IsNew t.0 1 t.2) }
+    ensures many { IfOk result (λ t. seats_of t.0 ≡ many) }
+    ensures first { IfOk result (λ t. IsNew t.0 (many - 2) t.1) }
+    ensures second { IfOk result (λ t. IsNew t.0 (many - 1) t.2) }
 {
     let plan = five_cells(alloc)?;
-    let Ok((board, mut seats)) = Countdown::make(alloc, plan, 2) else {
+    let Ok((board, mut seats)) = Countdown::make(alloc, plan, many) else {
         return Err(Fail::from("board"));
     };
     let Some(second) = seats.pop() else {
-        return Err(Fail::from("second"));
+        unreachable!()
     };
     let Some(first) = seats.pop() else {
-        return Err(Fail::from("first"));
+        unreachable!()
     };
     Ok((board, first, second))
 }
@@ -92,10 +100,10 @@ fn close_two(
         return Err(Fail::from("room"));
     };
     let Ok(()) = seats.push(first) else {
-        return Err(Fail::from("first"));
+        unreachable!()
     };
     let Ok(()) = seats.push(second) else {
-        return Err(Fail::from("second"));
+        unreachable!()
     };
     Ok(board.close(seats))
 }
@@ -145,35 +153,67 @@ fn finds(board: &Countdown, seat: &mut CountSeat, rank: u32, outcome: Option<Out
     }
 }
 
+/// Whether claims and a look answer by the word that they find.
+fn answer_by_words(board: &Countdown, s0: &mut CountSeat, s1: &mut CountSeat) -> bool
+    requires five { cells (plan_of board.now) ≡ 5 }
+    requires first { IsSeatOf board.now s0.old × (held_of s0.old ≡ None) }
+    requires second { IsSeatOf board.now s1.old × (held_of s1.old ≡ None) }
+{
+    let Claim::Needs { left } = board.claim(s0, 2) else {
+        return false;
+    };
+    left == 1
+        && takes(board, s0, 0)
+        && matches!(board.claim(s1, 0), Claim::Taken)
+        && matches!(board.look(s1, 2), Look::Empty { word: 1 })
+}
+
 #[test]
 fn a_claim_by_its_word(rt: HostRuntime) -> Result<(), Fail> {
-    let (board, mut s0, mut s1) = two_seats(rt.alloc())?;
-    let Claim::Needs { left } = board.claim(&mut s0, 2) else {
-        return Err(Fail::from("needs"));
-    };
-    assert!(rt; left == 1);
-    assert!(rt; takes(&board, &mut s0, 0));
-    assert!(rt; matches!(board.claim(&mut s1, 0), Claim::Taken));
-    assert!(rt; matches!(board.look(&mut s1, 2), Look::Empty { word: 1 }));
+    let (board, mut s0, mut s1) = last_seats(rt.alloc(), 2)?;
+    assert!(rt; answer_by_words(&board, &mut s0, &mut s1));
     Ok(())
+}
+
+/// Whether the first seat's fill makes ready what the second then fills.
+fn fills_what_is_ready(board: &Countdown, s0: &mut CountSeat, s1: &mut CountSeat) -> bool
+    requires five { cells (plan_of board.now) ≡ 5 }
+    requires first { IsSeatOf board.now s0.old × (held_of s0.old ≡ None) }
+    requires second { IsSeatOf board.now s1.old × (held_of s1.old ≡ None) }
+    ensures first { IsSeatOf board.now s0.new × (held_of s0.new ≡ None) × (number_of s0.new ≡ number_of s0.old) }
+    ensures second { IsTrue result → IsSeatOf board.now s1.new × (held_of s1.new ≡ None) × (number_of s1.new ≡ number_of s1.old) }
+{
+    if fills(board, s0, 0) != Some(1002) {
+        return false;
+    }
+    let Claim::Done = board.claim(s1, 0) else {
+        return false;
+    };
+    if !finds(board, s1, 0, Some(Outcome::Value(Frac::whole(1)))) {
+        return false;
+    }
+    fills(board, s1, 2) == Some(0)
+}
+
+/// Whether the first receipt is of rank 0 and the second of rank 2, and just these ranks have outcomes.
+fn has_both(closed: &Closed) -> bool
+    requires { vec_len closed.now.receipts ≡ 2 }
+{
+    let mut same = closed.receipts[0].as_slice() == [0u32].as_slice()
+        && closed.receipts[1].as_slice() == [2u32].as_slice();
+    for rank in 0..closed.table.len() {
+        same = same && closed.table.outcome(rank).is_some() == (rank == 0 || rank == 2);
+    }
+    same
 }
 
 #[test]
 fn a_fill_makes_ready(rt: HostRuntime) -> Result<(), Fail> {
     let alloc = rt.alloc();
-    let (board, mut s0, mut s1) = two_seats(alloc)?;
-    assert!(rt; fills(&board, &mut s0, 0) == Some(1002));
-    let Claim::Done = board.claim(&mut s1, 0) else {
-        return Err(Fail::from("done"));
-    };
-    assert!(rt; finds(&board, &mut s1, 0, Some(Outcome::Value(Frac::whole(1)))));
-    assert!(rt; fills(&board, &mut s1, 2) == Some(0));
+    let (board, mut s0, mut s1) = last_seats(alloc, 2)?;
+    assert!(rt; fills_what_is_ready(&board, &mut s0, &mut s1));
     let closed = close_two(alloc, board, s0, s1)?;
-    assert!(rt; closed.receipts[0].as_slice() == [0u32].as_slice());
-    assert!(rt; closed.receipts[1].as_slice() == [2u32].as_slice());
-    for rank in 0..closed.table.len() {
-        assert!(rt; closed.table.outcome(rank).is_some() == (rank == 0 || rank == 2));
-    }
+    assert!(rt; has_both(&closed));
     Ok(())
 }
 
@@ -195,6 +235,23 @@ fn shows(
     }
 }
 
+/// Whether a seat finds nothing before a sweep, and the outcomes of the first and the last rank behind it.
+fn finds_levels(board: &Frontier, filler: &mut FillSeat, seat: &mut LevelSeat) -> bool
+    requires five { cells (level_plan board.now) ≡ 5 }
+    requires filler { IsFiller board.now filler.old }
+    requires seat { IsAsker board.now seat.old }
+{
+    let Ok(last) = Frac::new(3, 8) else {
+        return false;
+    };
+    if !shows(board, seat, 0, None, 0) {
+        return false;
+    }
+    level_sweep(board, filler);
+    shows(board, seat, 0, Some(Outcome::Value(Frac::whole(1))), 0)
+        && shows(board, seat, 4, Some(Outcome::Value(last)), 0)
+}
+
 #[test]
 fn levels_by_the_count(rt: HostRuntime) -> Result<(), Fail> {
     let alloc = rt.alloc();
@@ -202,53 +259,42 @@ fn levels_by_the_count(rt: HostRuntime) -> Result<(), Fail> {
         return Err(Fail::from("board"));
     };
     let Some(mut seat) = seats.pop() else {
-        return Err(Fail::from("asker"));
+        unreachable!()
     };
-    assert!(rt; shows(&board, &mut seat, 0, None, 0));
-    level_sweep(&board, &mut filler);
-    assert!(rt;
-        shows(
-            &board,
-            &mut seat,
-            0,
-            Some(Outcome::Value(Frac::whole(1))),
-            0
-        )
-    );
-    let last = Frac::new(3, 8).map_err(|_| "3/8")?;
-    assert!(rt; shows(&board, &mut seat, 4, Some(Outcome::Value(last)), 0));
+    assert!(rt; finds_levels(&board, &mut filler, &mut seat));
     Ok(())
 }
 
-/// A board with so many seats, closed at once: as many receipts, all empty, and no outcome.
-fn closes_empty(alloc: Global, plan: Plan, seats: u8) -> Result<bool, Fail>
-    requires { (1 ≤ seats) × (seats ≤ 32) }
-{
-    let len = plan.len();
-    let Ok((board, crew)) = Countdown::make(alloc, plan, seats) else {
-        return Err(Fail::from("board"));
-    };
-    let closed = board.close(crew);
-    let mut empty = closed.table.len() == len && closed.receipts.len() == usize::from(seats);
+/// Whether so many receipts were left, all empty, and no outcome.
+fn is_bare(closed: &Closed, seats: u8) -> bool {
+    let mut empty = closed.receipts.len() == usize::from(seats);
     for receipt in closed.receipts.iter() {
         empty = empty && receipt.len() == 0;
     }
     for rank in 0..closed.table.len() {
         empty = empty && closed.table.outcome(rank).is_none();
     }
-    Ok(empty)
+    empty
+}
+
+/// Whether a board of so many cells with so many seats, closed at once, is bare.
+fn closes_bare(alloc: Global, plan: Result<Plan, Fail>, cells: u32, seats: u8) -> Result<bool, Fail>
+    requires { (1 ≤ seats) × (seats ≤ 32) }
+{
+    let Ok((board, crew)) = Countdown::make(alloc, plan?, seats) else {
+        return Err(Fail::from("board"));
+    };
+    let closed = board.close(crew);
+    Ok(closed.table.len() == cells && is_bare(&closed, seats))
 }
 
 #[test]
 fn boards_that_nobody_filled(rt: HostRuntime) -> Result<(), Fail> {
     let alloc = rt.alloc();
-    assert!(rt; no_cells(alloc)?.len() == 0);
-    assert!(rt;
-        closes_empty(alloc, no_cells(alloc)?, 1)? && closes_empty(alloc, no_cells(alloc)?, 32)?
-    );
-    assert!(rt;
-        closes_empty(alloc, five_cells(alloc)?, 1)? && closes_empty(alloc, five_cells(alloc)?, 32)?
-    );
+    assert!(rt; closes_bare(alloc, no_cells(alloc), 0, 1)?);
+    assert!(rt; closes_bare(alloc, no_cells(alloc), 0, 32)?);
+    assert!(rt; closes_bare(alloc, five_cells(alloc), 5, 1)?);
+    assert!(rt; closes_bare(alloc, five_cells(alloc), 5, 32)?);
     Ok(())
 }
 
@@ -268,18 +314,28 @@ fn work(board: &Countdown, mut seat: CountSeat) -> CountSeat
     seat
 }
 
+/// Whether each outcome that a board left is that of one thread.
+fn agrees_with_one(alloc: Global, closed: &Closed) -> bool {
+    let Ok(right) = one_thread(alloc, &closed.plan) else {
+        return false;
+    };
+    let mut same = closed.table.len() == right.len();
+    for rank in 0..right.len() {
+        if rank < closed.table.len() {
+            let outcome = closed.table.outcome(rank);
+            same = same && (outcome.is_none() || outcome == right.outcome(rank));
+        }
+    }
+    same
+}
+
 #[test]
 fn two_threads_agree_with_one(rt: HostRuntime) -> Result<(), Fail> {
     let alloc = rt.alloc();
-    let right = one_thread(alloc, &five_cells(alloc)?).map_err(|_| "table")?;
-    let (board, s0, s1) = two_seats(alloc)?;
+    let (board, s0, s1) = last_seats(alloc, 2)?;
     let (s0, s1) = join(&rt, || work(&board, s0), || work(&board, s1));
     let closed = close_two(alloc, board, s0, s1)?;
-    assert!(rt; closed.table.len() == right.len());
-    for rank in 0..right.len() {
-        let outcome = closed.table.outcome(rank);
-        assert!(rt; outcome.is_none() || outcome == right.outcome(rank));
-    }
+    assert!(rt; agrees_with_one(alloc, &closed));
     Ok(())
 }
 
@@ -295,31 +351,44 @@ fn finish(board: &Countdown, mut seat: CountSeat, rank: u32) -> CountSeat
     seat
 }
 
+/// Whether each of two seats finds what the other filled.
+fn find_each_other(board: &Countdown, s0: &mut CountSeat, s1: &mut CountSeat) -> bool
+    requires five { cells (plan_of board.now) ≡ 5 }
+    requires first { IsSeatOf board.now s0.old }
+    requires second { IsSeatOf board.now s1.old }
+{
+    let Ok(eighth) = Frac::new(1, 8) else {
+        return false;
+    };
+    finds(board, s0, 1, Some(Outcome::Value(eighth)))
+        && finds(board, s1, 0, Some(Outcome::Value(Frac::whole(1))))
+}
+
 #[test]
 fn seats_on_other_threads(rt: HostRuntime) -> Result<(), Fail> {
-    let (board, mut s0, mut s1) = two_seats(rt.alloc())?;
+    let (board, mut s0, mut s1) = last_seats(rt.alloc(), 2)?;
     assert!(rt; takes(&board, &mut s0, 0) && takes(&board, &mut s1, 1));
     let (mut s0, mut s1) = join(&rt, || finish(&board, s0, 0), || finish(&board, s1, 1));
-    let eighth = Frac::new(1, 8).map_err(|_| "1/8")?;
-    assert!(rt; finds(&board, &mut s0, 1, Some(Outcome::Value(eighth))));
-    assert!(rt; finds(&board, &mut s1, 0, Some(Outcome::Value(Frac::whole(1)))));
+    assert!(rt; find_each_other(&board, &mut s0, &mut s1));
     Ok(())
+}
+
+/// Whether the last of 32 seats fills a rank, and the one before it finds that.
+fn last_fills(board: &Countdown, other: &mut CountSeat, last: &mut CountSeat) -> bool
+    requires five { cells (plan_of board.now) ≡ 5 }
+    requires other { IsSeatOf board.now other.old }
+    requires last { IsSeatOf board.now last.old × (held_of last.old ≡ None) }
+{
+    last.number() == 31
+        && fills(board, last, 0) == Some(1002)
+        && last.done() == [0u32].as_slice()
+        && other.done().len() == 0
+        && finds(board, other, 0, Some(Outcome::Value(Frac::whole(1))))
 }
 
 #[test]
 fn the_last_of_many_seats(rt: HostRuntime) -> Result<(), Fail> {
-    let alloc = rt.alloc();
-    let Ok((board, mut seats)) = Countdown::make(alloc, five_cells(alloc)?, 32) else {
-        return Err(Fail::from("board"));
-    };
-    let Some(mut last) = seats.pop() else {
-        return Err(Fail::from("last"));
-    };
-    let Some(mut other) = seats.pop() else {
-        return Err(Fail::from("other"));
-    };
-    assert!(rt; last.number() == 31 && fills(&board, &mut last, 0) == Some(1002));
-    assert!(rt; last.done() == [0u32].as_slice() && other.done().len() == 0);
-    assert!(rt; finds(&board, &mut other, 0, Some(Outcome::Value(Frac::whole(1)))));
+    let (board, mut other, mut last) = last_seats(rt.alloc(), 32)?;
+    assert!(rt; last_fills(&board, &mut other, &mut last));
     Ok(())
 }

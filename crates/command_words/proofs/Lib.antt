@@ -1,3 +1,4 @@
 mod ScriptLemmas
 mod StopLemmas
 mod FirstLaw
+mod StableLemmas

@@ -1,5 +1,7 @@
 -- Words of scripts, cut at a letter and read.
-use Rattle.std.proofs.Common.{◌≡◌, ◌≢◌, ℕ, ◌+◌, ◌<◌, Bool, true, false, ◌==◌, List, [], ◌∷◌, ◌++◌, length, get_or, refl, arith, Option, Some, None}
+use Rattle.std.proofs.Common.{◌≡◌, ◌≢◌, ℕ, suc, ◌+◌, ◌-◌, ◌<◌, Bool, true, false, ◌==◌, List, [], ◌∷◌, ◌++◌, length, get_or, refl, sym, ap, ◌∙◌, arith, Option, Some, None}
+use Rattle.std.specs.Prelude.{Result, Ok, Err}
+use Rattle.std.proofs.lemmas.List.{append_assoc, length-append}
 use Rattle.std.proofs.lemmas.Bool.Decides.{nat_tests}
 use Rattle.std.proofs.lemmas.Grind.{common_steps}
 use Rattle.std.specs.List.{slice_split}
@@ -7,8 +9,8 @@ use Rattle.std.proofs.lemmas.List.Splits.{length-slice_split}
 use Rattle.command_words.specs.Lines.{AreAsks, HasOneFinish}
 use Rattle.command_words.specs.declared.line.Line.{Line}
 use Rattle.command_words.specs.declared.line.Line.TheVariants.{Ask, Finish}
-use Rattle.command_words.specs.Scripts.{ask_of_parts, parts, line_of_word}
-use Rattle.command_words.specs.Options.{Parted, Next, End, Broken, fault_by, fault_of, line_then, lines_of}
+use Rattle.command_words.specs.Scripts.{ask_of_parts, byte_of_word, parts, line_of_word}
+use Rattle.command_words.specs.Options.{Parted, Next, End, Broken, with_index, read_index, indices, fault_by, fault_of, line_then, lines_of}
 
 -- ---- a list, cut at the first of a letter
 
@@ -38,6 +40,25 @@ split-at c (x ∷ xs) ys h = rw (head_differs c x xs h, split-at c xs ys (lacks_
 abbrev pub with_all : List ℕ → Option (List ℕ) → Option (List ℕ)
 with_all xs None = None
 with_all xs (Some ys) = Some (xs ++ ys)
+
+-- indices that were read, and what is read of the words behind them
+abbrev pub with_read : List ℕ → Result (List ℕ) ℕ → Result (List ℕ) ℕ
+with_read xs (Ok ys) = Ok (xs ++ ys)
+with_read xs (Err place) = Err place
+
+with_next : (xs : List ℕ) (x : ℕ) (r : Result (List ℕ) ℕ) → with_read xs (with_index x r) ≡ with_read (xs ++ x ∷ []) r
+with_next xs x (Ok ys) = ap Ok (sym (append_assoc xs (x ∷ []) ys))
+with_next xs x (Err place) = refl
+
+pub read_more : (xs : List ℕ) (x : ℕ) (w : List ℕ) (place : ℕ) (s : Parted) → length xs < 26 → byte_of_word w ≡ Some x
+    → with_read xs (indices (Next place w s) (26 - length xs)) ≡ with_read (xs ++ x ∷ []) (indices s (26 - length (xs ++ x ∷ [])))
+read_more xs x w place s room is =
+    ap (λ n. with_read xs (indices (Next place w s) n)) (less (length-append xs (x ∷ [])))
+    ∙ ap (λ o. with_read xs (read_index o place (indices s (26 - length (xs ++ x ∷ []))))) is
+    ∙ with_next xs x (indices s (26 - length (xs ++ x ∷ [])))
+  where
+    less : length (xs ++ x ∷ []) ≡ length xs + 1 → 26 - length xs ≡ suc (26 - length (xs ++ x ∷ []))
+    less e = omega (arith, e, room)
 
 -- a word of four parts or more is no ask
 pub four_parts : (a g d w : List ℕ) → ask_of_parts (a ∷ g ∷ d ∷ parts 58 w) ≡ None

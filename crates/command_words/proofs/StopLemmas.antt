@@ -1,13 +1,14 @@
 -- Where a reader of the words stops.
-use Rattle.std.proofs.Common.{◌≡◌, ◌≢◌, ◌⊎◌, inl, inr, ℕ, ◌+◌, Bool, true, false, List, [], ◌∷◌, ◌++◌, length, refl, sym, ap, ◌∙◌, arith, Option, Some, None}
-use Rattle.std.specs.Prelude.{cond, codes}
+use Rattle.std.proofs.Common.{◌≡◌, ◌≢◌, ◌⊎◌, inl, inr, ℕ, zero, suc, ◌+◌, Bool, true, false, List, [], ◌∷◌, ◌++◌, length, refl, sym, ap, ◌∙◌, arith, Option, Some, None}
+use Rattle.std.specs.Prelude.{codes, Result, Ok, Err}
 use Rattle.airy_math.specs.Keys.{key_of}
 use Rattle.airy_math.specs.declared.Family.TheVariants.{Wk}
 use Rattle.command_words.specs.declared.line.Line.{Line}
 use Rattle.command_words.specs.declared.line.Line.TheVariants.{Ask, Finish}
-use Rattle.command_words.specs.Words.{Kind, Named, Reading, Refused, number_of, kind_of_word, with_kind}
-use Rattle.command_words.specs.Scripts.{line_of_word}
-use Rattle.command_words.specs.Options.{Parted, Next, End, Broken, Mode, Options, Value, Dashed, Act, Take, Skip, Break, act, after, parted, option_act, ends, reads_kind, reads_number, script_by, fault_by, fault_of, workers_of, lines_of, line_then}
+use Rattle.airy_math.specs.declared.Family.{Family}
+use Rattle.command_words.specs.Words.{Kind, Named, Reading, Refused, kind_of_word, family_of_word}
+use Rattle.command_words.specs.Scripts.{byte_of_word, line_of_word}
+use Rattle.command_words.specs.Options.{Parted, Next, End, Broken, Mode, Options, Value, Dashed, Act, Take, Skip, Break, act, after, parted, option_act, ends, goes_on, with_rest, reads, with_index, read_index, indices, script_by, fault_by, fault_of, workers_of, lines_of, line_then}
 use Rattle.command_words.specs.OptionExamples.{words_compute}
 
 -- ---- a reading by words, refused at a place
@@ -19,7 +20,7 @@ Fine r = (n : ℕ) → r ≢ Refused n
 fine_along : (x y : Reading) → x ≡ y → Fine y → Fine x
 fine_along x y e fine n h = fine n (sym e ∙ h)
 
-place_is : (a b : ℕ) → Refused a ≡ Refused b → a ≡ b
+pub place_is : (a b : ℕ) → Refused a ≡ Refused b → a ≡ b
 place_is a b e = cc
 
 -- The words, the first of which has the number p, are refused with n: at a word that no words behind it mend, where other words in its
@@ -121,31 +122,63 @@ ends_live R fine (Options may n) p = ([], fine p n)
 ends_live R fine Value p = (codes "1" ∷ [], fine (p + 1) 1)
 ends_live R fine (Dashed n) p = ([], fine p n)
 
-pub ends_stopped : (f : ℕ → Reading) → ((n : ℕ) → Fine (f n)) → AlwaysStopped (ends f)
-ends_stopped f fine = stopped (ends f) (record { broken = λ p. refl; ended = λ p n. inr (fine n); live = ends_live (ends f) (λ p n. fine n) }) (λ p w. inl (λ s. refl))
+-- a reader that stops so, and that some words are read by to their end
+abbrev pub Good : (Parted → Reading) → Type 0
+Good R = AlwaysStopped R × Lives R
 
-pub ends_lives : (f : ℕ → Reading) → ((n : ℕ) → Fine (f n)) → Lives (ends f)
-ends_lives f fine = ends_live (ends f) (λ p n. fine n)
+pub ends_good : (f : ℕ → Reading) → ((n : ℕ) → Fine (f n)) → Good (ends f)
+ends_good f fine = (stopped (ends f) (record { broken = λ p. refl; ended = λ p n. inr (fine n); live = live }) (λ p w. inl (λ s. refl)), live)
+  where
+    live : Lives (ends f)
+    live = ends_live (ends f) (λ p n. fine n)
 
-kind_turn : (f : Kind → Parted → Reading) → ((kind : Kind) → AlwaysStopped (f kind)) → (p : ℕ) (w : List ℕ) (o : Option Kind) → kind_of_word w ≡ o → Turn (reads_kind f) AlwaysStopped p w
-kind_turn f next p w None is = inl (λ s. ap (λ o. with_kind o p (λ kind. f kind s)) is)
-kind_turn f next p w (Some kind) is = inr (f kind, λ s. ap (λ o. with_kind o p (λ k. f k s)) is, next kind)
+at_place : {A : Type 0} (read : List ℕ → Option A) (f : A → Parted → Reading) (p : ℕ) (w : List ℕ) (o : Option A) → read w ≡ o → (s : Parted)
+    → reads read f (Next p w s) ≡ goes_on (λ x. f x.0 x.1) (with_rest o p s)
+at_place read f p w o is s = ap (λ o. goes_on (λ x. f x.0 x.1) (with_rest o p s)) is
 
-pub kind_lives : (f : Kind → Parted → Reading) → ((kind : Kind) → Lives (f kind)) → Lives (reads_kind f)
-kind_lives f live = lives_by (reads_kind f) (f (Named Wk)) (codes "wk") (λ may n. refl) (λ p s. refl) (live (Named Wk))
+place_turn : {A : Type 0} (read : List ℕ → Option A) (f : A → Parted → Reading) → ((x : A) → Good (f x)) → (p : ℕ) (w : List ℕ) (o : Option A) → read w ≡ o → Turn (reads read f) AlwaysStopped p w
+place_turn read f good p w None is = inl (at_place read f p w None is)
+place_turn read f good p w (Some x) is = inr (f x, at_place read f p w (Some x) is, (good x).0)
 
-pub kind_stopped : (f : Kind → Parted → Reading) → ((kind : Kind) → AlwaysStopped (f kind)) → ((kind : Kind) → Lives (f kind)) → AlwaysStopped (reads_kind f)
-kind_stopped f next live = stopped (reads_kind f) (record { broken = λ p. refl; ended = λ p n. inl refl; live = kind_lives f live }) (λ p w. kind_turn f next p w (kind_of_word w) refl)
+place_good : {A : Type 0} (read : List ℕ → Option A) (w : List ℕ) (x : A) → IsPlain w → read w ≡ Some x → (f : A → Parted → Reading) → ((x : A) → Good (f x)) → Good (reads read f)
+place_good read w x plain is f good = (stopped (reads read f) (record { broken = λ p. refl; ended = λ p n. inl refl; live = live }) (λ p v. place_turn read f good p v (read v) refl), live)
+  where
+    live : Lives (reads read f)
+    live = lives_by (reads read f) (f x) w plain (λ p s. at_place read f p w (Some x) is s) (good x).1
 
-number_turn : (is_word : List ℕ → Bool) (f : ℕ → Parted → Reading) → ((n : ℕ) → AlwaysStopped (f n)) → (p : ℕ) (w : List ℕ) (b : Bool) → is_word w ≡ b → Turn (reads_number is_word f) AlwaysStopped p w
-number_turn is_word f next p w false is = inl (λ s. ap (λ b. cond b (f (number_of w) s) (Refused p)) is)
-number_turn is_word f next p w true is = inr (f (number_of w), λ s. ap (λ b. cond b (f (number_of w) s) (Refused p)) is, next (number_of w))
+pub kind_good : (f : Kind → Parted → Reading) → ((kind : Kind) → Good (f kind)) → Good (reads kind_of_word f)
+kind_good = place_good kind_of_word (codes "wk") (Named Wk) (λ may n. refl) refl
 
-pub number_lives : (is_word : List ℕ → Bool) (f : ℕ → Parted → Reading) → is_word (codes "1") ≡ true → ((n : ℕ) → Lives (f n)) → Lives (reads_number is_word f)
-number_lives is_word f one live = lives_by (reads_number is_word f) (f 1) (codes "1") (λ may n. refl) (λ p s. ap (λ b. cond b (f 1 s) (Refused p)) one) (live 1)
+pub family_good : (f : Family → Parted → Reading) → ((family : Family) → Good (f family)) → Good (reads family_of_word f)
+family_good = place_good family_of_word (codes "wk") Wk (λ may n. refl) refl
 
-pub number_stopped : (is_word : List ℕ → Bool) (f : ℕ → Parted → Reading) → is_word (codes "1") ≡ true → ((n : ℕ) → AlwaysStopped (f n)) → ((n : ℕ) → Lives (f n)) → AlwaysStopped (reads_number is_word f)
-number_stopped is_word f one next live = stopped (reads_number is_word f) (record { broken = λ p. refl; ended = λ p n. inl refl; live = number_lives is_word f one live }) (λ p w. number_turn is_word f next p w (is_word w) refl)
+pub number_good : (read : List ℕ → Option ℕ) → read (codes "1") ≡ Some 1 → (f : ℕ → Parted → Reading) → ((n : ℕ) → Good (f n)) → Good (reads read f)
+number_good read one = place_good read (codes "1") 1 (λ may n. refl) one
+
+-- ---- indices
+
+-- indices up to the end behind one, at most so many
+abbrev pub last_indices : ℕ → ℕ → (List ℕ → Reading) → Parted → Reading
+last_indices d room f s = goes_on f (with_index d (indices s room))
+
+index_apart : (f : List ℕ → Reading) (d : ℕ) (r : Result (List ℕ) ℕ) → goes_on f (with_index d r) ≡ goes_on (λ ds. f (d ∷ ds)) r
+index_apart f d (Ok ds) = refl
+index_apart f d (Err place) = refl
+
+indices_turn : (d room : ℕ) (f : List ℕ → Reading) → ((e : ℕ) → AlwaysStopped (last_indices e room (λ ds. f (d ∷ ds)))) → (p : ℕ) (w : List ℕ) (o : Option ℕ) → byte_of_word w ≡ o → Turn (last_indices d (suc room) f) AlwaysStopped p w
+indices_turn d room f next p w None is = inl (λ s. ap (λ o. goes_on f (with_index d (read_index o p (indices s room)))) is)
+indices_turn d room f next p w (Some e) is = inr (last_indices e room (λ ds. f (d ∷ ds)), λ s. ap (λ o. goes_on f (with_index d (read_index o p (indices s room)))) is ∙ index_apart f d (with_index e (indices s room)), next e)
+
+indices_read : (d room : ℕ) (f : List ℕ → Reading) → ((ds : List ℕ) → Fine (f ds)) → Reads (last_indices d room f)
+indices_read d room f fine = record { broken = λ p. refl; ended = λ p n. inr (fine (d ∷ [])); live = ends_live (last_indices d room f) (λ p n. fine (d ∷ [])) }
+
+indices_stopped : (d room : ℕ) (f : List ℕ → Reading) → ((ds : List ℕ) → Fine (f ds)) → AlwaysStopped (last_indices d room f)
+indices_stopped d zero f fine = stopped (last_indices d zero f) (indices_read d zero f fine) (λ p w. inl (λ s. refl))
+indices_stopped d (suc room) f fine = stopped (last_indices d (suc room) f) (indices_read d (suc room) f fine)
+    (λ p w. indices_turn d room f (λ e. indices_stopped e room (λ ds. f (d ∷ ds)) (λ ds. fine (d ∷ ds))) p w (byte_of_word w) refl)
+
+pub indices_good : (d room : ℕ) (f : List ℕ → Reading) → ((ds : List ℕ) → Fine (f ds)) → Good (last_indices d room f)
+indices_good d room f fine = (indices_stopped d room f fine, (indices_read d room f fine).live)
 
 -- ---- scripts
 
@@ -168,14 +201,14 @@ an_ask : line_of_word (codes "ask:1:0") ≡ Some (Ask (key_of 1 (0 ∷ [])))
 unfolding words_compute
 an_ask = refl
 
-goes_on : (finished : Bool) (f : ℕ → List Line → Reading) → NeverRefuses f → Lives (script_from true finished f)
-goes_on finished f fine = ends_live (script_from true finished f) (λ p n. fine n [])
+script_goes_on : (finished : Bool) (f : ℕ → List Line → Reading) → NeverRefuses f → Lives (script_from true finished f)
+script_goes_on finished f fine = ends_live (script_from true finished f) (λ p n. fine n [])
 
-pub script_lives : (some finished : Bool) (f : ℕ → List Line → Reading) → NeverRefuses f → Lives (script_from some finished f)
-script_lives true finished f fine = goes_on finished f fine
+script_lives : (some finished : Bool) (f : ℕ → List Line → Reading) → NeverRefuses f → Lives (script_from some finished f)
+script_lives true finished f fine = script_goes_on finished f fine
 script_lives false finished f fine = let line = Ask (key_of 1 (0 ∷ [])) in
     lives_by (script_from false finished f) (script_from true finished (with_line line f)) (codes "ask:1:0") (λ may n. refl) (λ p s. at_word false finished f p (codes "ask:1:0") (Some line) an_ask s)
-    (goes_on finished (with_line line f) (λ n lines. fine n (line ∷ lines)))
+    (script_goes_on finished (with_line line f) (λ n lines. fine n (line ∷ lines)))
 
 script_ended : (some finished : Bool) (f : ℕ → List Line → Reading) → NeverRefuses f → (p n : ℕ) → (script_from some finished f (End p n) ≡ Refused p) ⊎ Fine (script_from some finished f (End p n))
 script_ended true finished f fine p n = inr (fine n [])
@@ -192,8 +225,11 @@ script_turn ws some true f next fine p w (Some Finish) is = inl (at_word some tr
 script_reads : (some finished : Bool) (f : ℕ → List Line → Reading) → NeverRefuses f → Reads (script_from some finished f)
 script_reads some finished f fine = record { broken = λ p. refl; ended = script_ended some finished f fine; live = script_lives some finished f fine }
 
-pub script_stopped : (some finished : Bool) (f : ℕ → List Line → Reading) → NeverRefuses f → AlwaysStopped (script_from some finished f)
+script_stopped : (some finished : Bool) (f : ℕ → List Line → Reading) → NeverRefuses f → AlwaysStopped (script_from some finished f)
 script_stopped some finished f fine [] = stopped-nil (script_from some finished f) (script_reads some finished f fine)
 script_stopped some finished f fine (w ∷ ws) =
     stopped-cons (script_from some finished f) w ws (script_reads some finished f fine) (script_stopped some finished f fine ws)
     (λ p. script_turn ws some finished f (λ once g h. script_stopped true once g h ws) fine p w (line_of_word w) refl)
+
+pub script_good : (f : ℕ → List Line → Reading) → NeverRefuses f → Good (script_from false false f)
+script_good f fine = (script_stopped false false f fine, script_lives false false f fine)

@@ -1,5 +1,8 @@
 -- What the code's reading stands for.
-use Rattle.std.specs.Prelude.{◌≡◌, ℕ, ◌+◌, ◌≤◌, false, Some, None, Result, Ok, Err, ◌<◌, ◌^◌, length, map, string_bytes}
+use Rattle.std.specs.Prelude.{◌≡◌, ◌≢◌, ℕ, ◌+◌, ◌≤◌, false, Some, None, Result, Ok, Err, ◌<◌, ◌^◌, length, map, string_bytes}
+use Rattle.airy_math.specs.declared.Family.TheVariants.{Wp}
+use Rattle.airy_math.specs.Keys.{euler}
+use Rattle.airy_index.specs.Fields.{IsKey}
 use Rattle.command_words.specs.declared.asked.Asked.{Asked}
 use Rattle.command_words.specs.declared.asked.Asked.TheVariants as asked
 use Rattle.command_words.specs.declared.asked.Kind.{Kind}
@@ -42,7 +45,25 @@ reading (asked.Table k bound workers) = words.Table (kind_of k) bound workers
 reading (asked.Session k bound workers script) = words.Session (kind_of k) bound workers (options.lines_of (parted_of script))
 reading (asked.Probe bound workers) = words.Probe bound workers
 reading (asked.Relations places k) = words.Relations places (kind_of k)
+reading (asked.Number family key) = words.Number family key
+reading (asked.Volume genus places) = words.Volume genus places
+reading (asked.Bulk seed dim bound workers) = words.Bulk seed dim bound workers
 reading (asked.Refused before) = words.Refused (before + 1)
+
+-- what is asked for, or how many words stand before the first that is refused
+abbrev pub reading_by : Result Asked ℕ → words.Reading
+reading_by (Ok asked) = reading asked
+reading_by (Err before) = words.Refused (before + 1)
+
+-- a place that was read as something, and the words behind it
+abbrev pub taken : {A B : Type 0} → (A → B) → Result (A × Left) ℕ → Result (B × options.Parted) ℕ
+taken f (Ok x) = Ok (f x.0, parted_of x.1)
+taken f (Err before) = Err (before + 1)
+
+-- something that was read up to the end
+abbrev pub whole : {A B : Type 0} → (A → B) → Result A ℕ → Result B ℕ
+whole f (Ok x) = Ok (f x)
+whole f (Err before) = Err (before + 1)
 
 -- ---- what is known of them
 
@@ -90,4 +111,7 @@ IsFit (asked.Relations places k) = IsPlaces places
 IsFit (asked.Table k bound workers) = IsCrew workers
 IsFit (asked.Session k bound workers script) = IsCrew workers × IsLeft script × HasOneFinish (options.lines_of (parted_of script))
 IsFit (asked.Probe bound workers) = IsCrew workers
+IsFit (asked.Number family key) = IsKey key.g key.idx × (family ≢ Wp)
+IsFit (asked.Volume genus places) = (0 < euler genus places) × (1 ≤ places) × (places ≤ 26)
+IsFit (asked.Bulk seed dim bound workers) = (seed < 10 ^ 9) × (1 ≤ dim) × (dim ≤ 8) × IsCrew workers
 IsFit (asked.Refused before) = Unit {0}

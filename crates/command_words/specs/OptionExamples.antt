@@ -4,13 +4,13 @@ use Rattle.std.specs.Prelude.{ℕ, [], ◌∷◌, codes}
 use Rattle.airy_math.specs.declared.Family.TheVariants.{Wk}
 use Rattle.airy_math.specs.Keys.{key_of, euler, ordered, ordered_with, insert}
 use Rattle.command_words.specs.declared.line.Line.TheVariants.{Ask, Finish}
-use Rattle.command_words.specs.Words.{Named, Text, Table, Session, Refused}
+use Rattle.command_words.specs.Words.{Named, Text, Table, Session, Number, Bulk, Refused}
 use Rattle.command_words.specs.Scripts.{line_of_word}
-use Rattle.command_words.specs.Options.{reading_of}
+use Rattle.command_words.specs.Options.{worded_of, reading_of}
 
 -- To name this on an `unfolding` line opens all that reads words.
 unfoldable pub words_compute : ℕ → ℕ
-unfolding euler ordered ordered_with insert key_of line_of_word reading_of
+unfolding euler ordered ordered_with insert key_of line_of_word worded_of reading_of
 words_compute n = n
 
 none : reading_of [] ≡ Refused 1
@@ -41,10 +41,40 @@ unstable : reading_of (codes "session" ∷ codes "wk" ∷ codes "1" ∷ codes "a
 unfolding words_compute
 unstable = refl
 
-a_session : reading_of (codes "session" ∷ codes "wk" ∷ codes "3" ∷ codes "--workers=4" ∷ codes "finish" ∷ codes "ask:0:1,0,0,0" ∷ []) ≡ Session (Named Wk) 3 4 (Finish ∷ Ask (key_of 0 (0 ∷ 0 ∷ 0 ∷ 1 ∷ [])) ∷ [])
+a_session : reading_of (codes "session" ∷ codes "wk" ∷ codes "3" ∷ codes "--workers=4" ∷ codes "finish" ∷ codes "ask:0:1,0,0,0" ∷ [])
+    ≡ Session (Named Wk) 3 4 (Finish ∷ Ask (key_of 0 (0 ∷ 0 ∷ 0 ∷ 1 ∷ [])) ∷ [])
 unfolding words_compute
 a_session = refl
 
 dashes : reading_of (codes "table" ∷ codes "--" ∷ codes "-" ∷ codes "1" ∷ []) ≡ Table Text 1 2
 unfolding words_compute
 dashes = refl
+
+a_number : reading_of (codes "number" ∷ codes "wk" ∷ codes "1" ∷ codes "2" ∷ codes "--" ∷ codes "0" ∷ [])
+    ≡ Number Wk (key_of 1 (0 ∷ 2 ∷ []))
+unfolding words_compute
+a_number = refl
+
+no_family : reading_of (codes "number" ∷ codes "wp" ∷ codes "1" ∷ codes "0" ∷ []) ≡ Refused 2
+unfolding words_compute
+no_family = refl
+
+unstable_key : reading_of (codes "number" ∷ codes "wk" ∷ codes "0" ∷ codes "0" ∷ codes "0" ∷ []) ≡ Refused 6
+unfolding words_compute
+unstable_key = refl
+
+unstable_pair : reading_of (codes "volume" ∷ codes "0" ∷ codes "2" ∷ []) ≡ Refused 4
+unfolding words_compute
+unstable_pair = refl
+
+many_places : reading_of (codes "volume" ∷ codes "0" ∷ codes "27" ∷ []) ≡ Refused 3
+unfolding words_compute
+many_places = refl
+
+a_bulk : reading_of (codes "bulk" ∷ codes "1" ∷ codes "2" ∷ codes "--workers=0" ∷ codes "3" ∷ []) ≡ Bulk 1 2 3 0
+unfolding words_compute
+a_bulk = refl
+
+no_dim : reading_of (codes "bulk" ∷ codes "1" ∷ codes "9" ∷ codes "1" ∷ []) ≡ Refused 3
+unfolding words_compute
+no_dim = refl

@@ -1,10 +1,13 @@
 -- The words of a command line with its options: every command's reading, from left to right.
-use Rattle.std.specs.Prelude.{ℕ, ◌+◌, List, [], ◌∷◌, Bool, true, false, cond, codes, nat_eq, nat_le, ◌&&◌, Option, Some, None, take, drop}
+use Rattle.std.specs.Prelude.{ℕ, zero, suc, ◌+◌, nat_eq, List, [], ◌∷◌, length, take, drop, codes, Bool, true, false, cond}
+use Rattle.std.specs.Prelude.{Option, Some, None, Result, Ok, Err}
+use Rattle.airy_math.specs.Keys.{key_of, ordered}
 use Rattle.std.specs.Str.{bytes_eq}
 use Rattle.command_words.specs.declared.line.Line.{Line}
 use Rattle.command_words.specs.declared.line.Line.TheVariants.{Ask, Finish}
-use Rattle.command_words.specs.Scripts.{line_of_word}
-use Rattle.command_words.specs.Words.{Kind, Reading, Table, Session, Probe, Relations, Refused, is_number, number_of, is_bound_word, is_places_word, kind_of_word, with_kind, default_workers}
+use Rattle.command_words.specs.Scripts.{byte_of_word, line_of_word}
+use Rattle.command_words.specs.Words.{Reading, Table, Session, Probe, Relations, Number, Volume, Bulk, Refused, settled, default_workers}
+use Rattle.command_words.specs.Words.{long_number, short_number, kind_of_word, family_of_word}
 
 -- ---- the options
 
@@ -32,13 +35,13 @@ pub data Act : Type 0 where
   Skip : Mode → Act
   Break : Act
 
--- a number of workers: 1 to 3 digits with a value up to 16
-abbrev pub is_workers_word : List ℕ → Bool
-is_workers_word w = is_number 3 w && nat_le (number_of w) 16
+-- a value of `--workers`, which may stand once: a number up to 16
+abbrev pub value_by : Option ℕ → Act
+value_by None = Break
+value_by (Some n) = Skip (Options false n)
 
--- a value of `--workers`, which may stand once
 abbrev pub value_act : List ℕ → Act
-value_act w = cond (is_workers_word w) (Skip (Options false (number_of w))) Break
+value_act w = value_by (short_number 0 16 w)
 
 -- a word that begins with `-` (45) and isn't `-` alone
 abbrev pub begins_dash : List ℕ → Bool
@@ -80,23 +83,50 @@ behind_first lists ws = parted (Options lists default_workers) 2 ws
 
 -- ---- the places of the commands
 
--- the reading by the number of workers, where no word is left
+-- what a thing that was read leads to, or the number of the refused word
+abbrev pub goes_on : {A : Type 0} → (A → Reading) → Result A ℕ → Reading
+goes_on f (Ok x) = f x
+goes_on f (Err place) = Refused place
+
+-- the number of workers, where no word is left
+abbrev pub ended : Parted → Result ℕ ℕ
+ended (Next place w s) = Err place
+ended (End place n) = Ok n
+ended (Broken place) = Err place
+
 abbrev pub ends : (ℕ → Reading) → Parted → Reading
-ends f (Next place w s) = Refused place
-ends f (End place n) = f n
-ends f (Broken place) = Refused place
+ends f s = goes_on f (ended s)
 
--- KIND, and what it leads to
-abbrev pub reads_kind : (Kind → Parted → Reading) → Parted → Reading
-reads_kind f (Next place w s) = with_kind (kind_of_word w) place (λ kind. f kind s)
-reads_kind f (End place n) = Refused place
-reads_kind f (Broken place) = Refused place
+abbrev pub with_rest : {A : Type 0} → Option A → ℕ → Parted → Result (A × Parted) ℕ
+with_rest None place s = Err place
+with_rest (Some x) place s = Ok (x, s)
 
--- a word with a number, and what that leads to
-abbrev pub reads_number : (List ℕ → Bool) → (ℕ → Parted → Reading) → Parted → Reading
-reads_number is_word f (Next place w s) = cond (is_word w) (f (number_of w) s) (Refused place)
-reads_number is_word f (End place n) = Refused place
-reads_number is_word f (Broken place) = Refused place
+-- the next plain word as it is read for its place, and the words behind it
+abbrev pub next_read : {A : Type 0} → (List ℕ → Option A) → Parted → Result (A × Parted) ℕ
+next_read read (Next place w s) = with_rest (read w) place s
+next_read read (End place n) = Err place
+next_read read (Broken place) = Err place
+
+abbrev pub reads : {A : Type 0} → (List ℕ → Option A) → (A → Parted → Reading) → Parted → Reading
+reads read f s = goes_on (λ x. f x.0 x.1) (next_read read s)
+
+-- ---- indices
+
+-- one index before others
+abbrev pub with_index : ℕ → Result (List ℕ) ℕ → Result (List ℕ) ℕ
+with_index d (Ok ds) = Ok (d ∷ ds)
+with_index d (Err place) = Err place
+
+abbrev pub read_index : Option ℕ → ℕ → Result (List ℕ) ℕ → Result (List ℕ) ℕ
+read_index None place behind = Err place
+read_index (Some d) place behind = with_index d behind
+
+-- indices up to the end, at most so many
+abbrev pub indices : Parted → ℕ → Result (List ℕ) ℕ
+indices (Next place w s) zero = Err place
+indices (Next place w s) (suc room) = read_index (byte_of_word w) place (indices s room)
+indices (End place n) room = Ok []
+indices (Broken place) room = Err place
 
 -- ---- scripts
 
@@ -139,31 +169,41 @@ script f s = script_by (fault_of false false s) (f (workers_of s) (lines_of s))
 
 -- ---- the commands
 
-abbrev pub table_bound : Kind → Parted → Reading
-table_bound kind = reads_number is_bound_word (λ X. ends (λ n. Table kind X n))
-
 abbrev pub read_table : Parted → Reading
-read_table = reads_kind table_bound
+read_table = reads kind_of_word λ kind. reads long_number λ X. ends λ n. Table kind X n
 
 abbrev pub read_probe : Parted → Reading
-read_probe = reads_number is_bound_word (λ X. ends (λ n. Probe X n))
-
-abbrev pub session_bound : Kind → Parted → Reading
-session_bound kind = reads_number is_bound_word (λ X. script (Session kind X))
+read_probe = reads long_number λ X. ends λ n. Probe X n
 
 abbrev pub read_session : Parted → Reading
-read_session = reads_kind session_bound
-
-abbrev pub relations_kind : ℕ → Parted → Reading
-relations_kind N = reads_kind (λ kind. ends (λ n. Relations N kind))
+read_session = reads kind_of_word λ kind. reads long_number λ X. script (Session kind X)
 
 abbrev pub read_relations : Parted → Reading
-read_relations = reads_number is_places_word relations_kind
+read_relations = reads (short_number 1 32) λ N. reads kind_of_word λ kind. ends λ n. Relations N kind
 
-unfoldable pub reading_of : List (List ℕ) → Reading
-reading_of [] = Refused 1
-reading_of (w ∷ ws) =
+-- one index or more, and at most 26
+abbrev pub read_number : Parted → Reading
+read_number = reads family_of_word λ family. reads byte_of_word λ g. reads byte_of_word λ d s.
+    goes_on (λ ds. Number family (key_of g (ordered ds))) (with_index d (indices s 25))
+
+abbrev pub read_volume : Parted → Reading
+read_volume = reads byte_of_word λ g. reads (short_number 1 26) λ n. ends λ k. Volume g n
+
+abbrev pub read_bulk : Parted → Reading
+read_bulk = reads long_number λ seed. reads (short_number 1 8) λ dim. reads long_number λ X. ends λ n. Bulk seed dim X n
+
+-- the reading by the rules of the words
+unfoldable pub worded_of : List (List ℕ) → Reading
+worded_of [] = Refused 1
+worded_of (w ∷ ws) =
     cond (bytes_eq w (codes "table")) (read_table (behind_first true ws))
     (cond (bytes_eq w (codes "probe")) (read_probe (behind_first true ws))
     (cond (bytes_eq w (codes "session")) (read_session (behind_first true ws))
-    (cond (bytes_eq w (codes "relations")) (read_relations (behind_first false ws)) (Refused 1))))
+    (cond (bytes_eq w (codes "relations")) (read_relations (behind_first false ws))
+    (cond (bytes_eq w (codes "number")) (read_number (behind_first false ws))
+    (cond (bytes_eq w (codes "volume")) (read_volume (behind_first false ws))
+    (cond (bytes_eq w (codes "bulk")) (read_bulk (behind_first true ws)) (Refused 1)))))))
+
+-- the same, but what isn't stable is refused behind all words
+unfoldable pub reading_of : List (List ℕ) → Reading
+reading_of ws = settled (length ws + 1) (worded_of ws)

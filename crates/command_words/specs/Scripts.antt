@@ -1,22 +1,19 @@
 -- The words of a script.
-use Rattle.std.specs.Prelude.{ℕ, ◌==◌, List, [], ◌∷◌, length, Bool, cond, codes, nat_le, ◌&&◌, Option, Some, None}
+use Rattle.std.specs.Prelude.{ℕ, ◌==◌, List, [], ◌∷◌, length, cond, codes, nat_le, ◌&&◌, Option, Some, None}
 use Rattle.std.specs.List.{slice_split}
 use Rattle.std.specs.Str.{bytes_eq}
 use Rattle.airy_math.specs.Keys.{euler, key_of, ordered}
 use Rattle.command_words.specs.declared.line.Line.{Line}
 use Rattle.command_words.specs.declared.line.Line.TheVariants.{Ask, Finish}
-use Rattle.command_words.specs.Words.{is_number, number_of}
+use Rattle.command_words.specs.Words.{short_number}
 
 -- the parts of a word between the letters c
 abbrev pub parts : ℕ → List ℕ → List (List ℕ)
 parts c w = slice_split (λ x. x == c) w
 
--- 1 to 3 digits with a value up to 255
-abbrev pub is_byte_word : List ℕ → Bool
-is_byte_word w = is_number 3 w && nat_le (number_of w) 255
-
+-- a genus or an index: 1 to 3 digits with a value up to 255
 abbrev pub byte_of_word : List ℕ → Option ℕ
-byte_of_word w = cond (is_byte_word w) (Some (number_of w)) None
+byte_of_word w = short_number 0 255 w
 
 abbrev pub with_first : Option ℕ → Option (List ℕ) → Option (List ℕ)
 with_first None xs = None
@@ -30,7 +27,8 @@ bytes_of_words (w ∷ ws) = with_first (byte_of_word w) (bytes_of_words ws)
 -- an ask for the key of a genus and indices in any order: 1 to 26 of them, and stable
 abbrev pub ask_for : ℕ → Option (List ℕ) → Option Line
 ask_for g None = None
-ask_for g (Some idx) = cond (nat_le 1 (length idx) && nat_le (length idx) 26 && nat_le 1 (euler g (length idx))) (Some (Ask (key_of g (ordered idx)))) None
+ask_for g (Some idx) =
+    cond (nat_le 1 (length idx) && nat_le (length idx) 26 && nat_le 1 (euler g (length idx))) (Some (Ask (key_of g (ordered idx)))) None
 
 abbrev pub ask_of_genus : Option ℕ → Option (List ℕ) → Option Line
 ask_of_genus None idx = None

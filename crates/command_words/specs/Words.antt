@@ -3,6 +3,7 @@ use Rattle.std.specs.Prelude.{ℕ, ◌+◌, ◌*◌, ◌-◌, List, [], ◌∷�
 use Rattle.std.specs.Str.{bytes_eq}
 use Rattle.airy_math.specs.declared.Family.{Family}
 use Rattle.airy_math.specs.declared.Family.TheVariants.{Wk, Bgw, Wp}
+use Rattle.airy_math.specs.Keys.{Key, euler}
 use Rattle.command_words.specs.declared.line.Line.{Line}
 
 -- what a table or a check is of
@@ -20,6 +21,12 @@ pub data Reading : Type 0 where
   -- and the lines of a script
   Session : Kind → ℕ → ℕ → List Line → Reading
   Relations : ℕ → Kind → Reading
+  -- one number of a family, by its key
+  Number : Family → Key → Reading
+  -- the volume of a pair (g,n)
+  Volume : ℕ → ℕ → Reading
+  -- of a structure made from a seed and a dim, up to a bound, with so many workers
+  Bulk : ℕ → ℕ → ℕ → ℕ → Reading
   Refused : ℕ → Reading
 
 abbrev pub is_digit : ℕ → Bool
@@ -40,13 +47,13 @@ number_of w = fold (λ n c. 10 * n + (c - 48)) 0 w
 abbrev pub default_workers : ℕ
 default_workers = 2
 
--- a bound on the Euler number: 1 to 9 digits
-abbrev pub is_bound_word : List ℕ → Bool
-is_bound_word w = is_number 9 w
+-- X or SEED: 1 to 9 digits
+abbrev pub long_number : List ℕ → Option ℕ
+long_number w = cond (is_number 9 w) (Some (number_of w)) None
 
--- how many indices are checked: 1 to 3 digits with a value from 1 to 32
-abbrev pub is_places_word : List ℕ → Bool
-is_places_word w = is_number 3 w && nat_le 1 (number_of w) && nat_le (number_of w) 32
+-- 1 to 3 digits with a value from the one to the other
+abbrev pub short_number : ℕ → ℕ → List ℕ → Option ℕ
+short_number least most w = cond (is_number 3 w && nat_le least (number_of w) && nat_le (number_of w) most) (Some (number_of w)) None
 
 -- KIND
 abbrev pub kind_of_word : List ℕ → Option Kind
@@ -56,7 +63,21 @@ kind_of_word w =
     (cond (bytes_eq w (codes "wp")) (Some (Named Wp))
     (cond (bytes_eq w (codes "-")) (Some Text) None)))
 
--- what a KIND leads to, or the place of a word that is none
-abbrev pub with_kind : Option Kind → ℕ → (Kind → Reading) → Reading
-with_kind None place f = Refused place
-with_kind (Some kind) place f = f kind
+-- FAMILY
+abbrev pub family_of_word : List ℕ → Option Family
+family_of_word w = cond (bytes_eq w (codes "wk")) (Some Wk) (cond (bytes_eq w (codes "bgw")) (Some Bgw) None)
+
+-- the key or the pair that is asked for is stable: 2g - 2 + n is above 0
+abbrev pub is_stable : Reading → Bool
+is_stable (Number family key) = nat_le 1 (euler key.g (length key.idx))
+is_stable (Volume g n) = nat_le 1 (euler g n)
+is_stable (Table kind X workers) = true
+is_stable (Probe X workers) = true
+is_stable (Session kind X workers lines) = true
+is_stable (Relations N kind) = true
+is_stable (Bulk seed dim X workers) = true
+is_stable (Refused place) = true
+
+-- the reading, or the place where it is refused because what is asked for isn't stable
+abbrev pub settled : ℕ → Reading → Reading
+settled place reading = cond (is_stable reading) reading (Refused place)

@@ -1,4 +1,5 @@
 use crate::options::Left;
+use airy_index::Key;
 use airy_math::Family;
 
 /// What a table or a check is of.
@@ -11,7 +12,7 @@ pub enum Kind {
 }
 
 /// What the words ask for.
-#[derive(Clone, Copy)]
+#[derive(Drop)]
 pub enum Asked<'a> {
     /// `table KIND X`, with so many workers.
     Table {
@@ -35,6 +36,23 @@ pub enum Asked<'a> {
     Relations {
         places: u8,
         kind: Kind,
+    },
+    /// `number FAMILY G D...`: one number of `wk` or `bgw`, by its key.
+    Number {
+        family: Family,
+        key: Key,
+    },
+    /// `volume G N`, with N from 1 to 26, where 2G - 2 + N is above 0.
+    Volume {
+        genus: u8,
+        places: u8,
+    },
+    /// `bulk SEED DIM X`, with DIM from 1 to 8, and with so many workers.
+    Bulk {
+        seed: u32,
+        dim: u8,
+        bound: u32,
+        workers: u8,
     },
     /// How many words stand before the first that breaks a rule.
     Refused {

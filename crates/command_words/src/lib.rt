@@ -2,7 +2,8 @@
 //!
 //! The words are read from left to right, and no memory is taken. Word 1 is the command. Of the later words, `--` makes all
 //! behind it plain, `--workers N` or `--workers=N` may stand once in the commands that list it, and the plain words fill the
-//! places of the command in order.
+//! places of the command in order. Words that keep these rules, but ask for a key or a pair that isn't stable, are refused behind
+//! all of them.
 #![tactic(auto)]
 
 mod asked;
@@ -10,6 +11,7 @@ mod laws;
 mod line;
 mod numbers;
 mod options;
+mod places;
 mod scripts;
 #[cfg(test)]
 mod tests;

@@ -1,13 +1,11 @@
-ghost use Rattle.std.specs.Prelude.{◌≡◌, ◌≤◌, IfSome, IsTrue, SomeIff};
-ghost use Rattle.command_words.specs.Words.{is_number, number_of, is_bound_word, is_places_word};
-ghost use Rattle.command_words.specs.Options.{is_workers_word};
-ghost use Rattle.command_words.specs.Scripts.{is_byte_word};
-ghost use Rattle.command_words.specs.Asked.{IsPlaces, IsCrew};
+ghost use Rattle.std.specs.Prelude.{◌≡◌, ◌<◌, ◌≤◌, ◌^◌, IfSome, IsTrue, SomeIff};
+ghost use Rattle.command_words.specs.Words.{is_number, number_of, long_number, short_number};
 
 /// Reads one digit or more, at most `most` of them, which is at most 9.
 fn read_number(word: &[u8], most: usize) -> Option<u32>
     requires { most ≤ 9 }
-    ensures { SomeIff result (IsTrue (is_number most word.now)) (number_of word.now) }
+    ensures number { SomeIff result (IsTrue (is_number most word.now)) (number_of word.now) }
+    ensures below { IfSome result (λ n. n < 10 ^ 9) }
 {
     if word.is_empty() || word.len() > most {
         return None;
@@ -22,41 +20,21 @@ fn read_number(word: &[u8], most: usize) -> Option<u32>
     Some(number)
 }
 
-/// Reads a bound on the Euler number.
-pub(crate) fn read_bound(word: &str) -> Option<u32>
-    ensures { SomeIff result (IsTrue (is_bound_word word.now)) (number_of word.now) }
+/// Reads a bound or a seed: 1 to 9 digits.
+pub(crate) fn read_long(word: &str) -> Option<u32>
+    ensures number { result ≡ long_number word.now }
+    ensures below { IfSome result (λ n. n < 10 ^ 9) }
 {
     read_number(word.as_bytes(), 9)
 }
 
-/// Reads how many indices are checked.
-pub(crate) fn read_places(word: &str) -> Option<u8>
-    ensures number { SomeIff result (IsTrue (is_places_word word.now)) (number_of word.now) }
-    ensures places { IfSome result IsPlaces }
-{
-    match read_number(word.as_bytes(), 3) {
-        Some(places) if 1 <= places && places <= 32 => Some(places as u8),
-        _ => None,
-    }
-}
-
-/// Reads a number of workers.
-pub(crate) fn read_workers(word: &[u8]) -> Option<u8>
-    ensures number { SomeIff result (IsTrue (is_workers_word word.now)) (number_of word.now) }
-    ensures most { IfSome result IsCrew }
+/// Reads a number of 1 to 3 digits, from `least` to `most`, which is at most 255.
+pub(crate) fn read_short(word: &[u8], least: u8, most: u8) -> Option<u8>
+    ensures number { result ≡ short_number least most word.now }
+    ensures within { IfSome result (λ n. (least ≤ n) × (n ≤ most)) }
 {
     match read_number(word, 3) {
-        Some(workers) if workers <= 16 => Some(workers as u8),
-        _ => None,
-    }
-}
-
-/// Reads a genus or an index.
-pub(crate) fn read_byte(word: &str) -> Option<u8>
-    ensures { SomeIff result (IsTrue (is_byte_word word.now)) (number_of word.now) }
-{
-    match read_number(word.as_bytes(), 3) {
-        Some(number) if number <= 255 => Some(number as u8),
+        Some(number) if least as u32 <= number && number <= most as u32 => Some(number as u8),
         _ => None,
     }
 }

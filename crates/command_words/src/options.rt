@@ -2,7 +2,7 @@ ghost use Rattle.std.specs.Prelude.{◌≡◌, ◌<◌, ◌≤◌, ◌+◌, ◌^
 ghost use Rattle.command_words.specs.Options.{act, at_last, begins_dash, behind_first, option_act, value_act};
 ghost use Rattle.command_words.specs.Asked.{act_of, mode_of, parted_of, token, IsCrew, IsMode, IsAct, IsLeft, IsNext, IsShorter};
 
-use crate::numbers::read_workers;
+use crate::numbers::read_short;
 
 /// What a word may be, by the words before it.
 #[derive(Clone, Copy, Debug, PartialEq, Eq)]
@@ -69,7 +69,7 @@ fn value_act(word: &[u8]) -> Act
     ensures act { act_of result ≡ value_act word.now }
     ensures crew { IsAct result }
 {
-    match read_workers(word) {
+    match read_short(word, 0, 16) {
         Some(workers) => Act::Skip(Mode::Options {
             may: false,
             workers,

@@ -5,7 +5,7 @@ ghost use Rattle.command_words.specs.Options.{lines_of};
 ghost use Rattle.command_words.specs.Asked.{parted_of, IsChecked, IsLeft};
 
 use crate::Line;
-use crate::numbers::read_byte;
+use crate::numbers::read_short;
 use crate::options::{Left, Next, next_word};
 use airy_index::Key;
 use arrayvec::ArrayVec;
@@ -41,7 +41,7 @@ fn read_key(g: u8, word: &str) -> Option<Line>
     let mut rest = word;
     loop {
         let (part, behind) = cut(rest, ',');
-        let index = read_byte(part)?;
+        let index = read_short(part.as_bytes(), 0, 255)?;
         if idx.is_full() {
             return None;
         }
@@ -67,7 +67,7 @@ fn read_ask(word: &str) -> Option<Line>
     if name != "ask" {
         return None;
     }
-    read_key(read_byte(genus)?, indices)
+    read_key(read_short(genus.as_bytes(), 0, 255)?, indices)
 }
 
 /// Reads a word of a script.

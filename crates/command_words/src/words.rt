@@ -1,216 +1,156 @@
-ghost use Rattle.std.specs.Prelude.{◌≡◌, map, option_map, string_bytes};
-ghost use Rattle.command_words.specs.Words.{Session, Table, Probe, Relations, kind_of_word};
-ghost use Rattle.command_words.specs.Options.{ends, read_probe, read_relations, read_session, read_table, reading_of, relations_kind, script, session_bound, table_bound};
+ghost use Rattle.std.specs.Prelude.{◌≡◌, ◌+◌, map, string_bytes, IfOk};
+ghost use Rattle.command_words.specs.Words.{settled};
+ghost use Rattle.command_words.specs.Options.{read_bulk, read_number, read_probe, read_relations, read_session, read_table, read_volume, reading_of};
 ghost use Rattle.command_words.specs.FirstRefused.{RefusesFirst};
-ghost use Rattle.command_words.specs.Asked.{reading, kind_of, parted_of, IsFit, IsLeft, IsPlaces};
+ghost use Rattle.command_words.specs.Asked.{reading, reading_by, parted_of, IsFit, IsLeft};
 
-use crate::asked::{Asked, Kind};
-use crate::numbers::{read_bound, read_places};
-use crate::options::{Left, Next, behind_first, next_word};
+use crate::asked::Asked;
+use crate::options::{Left, behind_first};
+use crate::places::{ends, last_indices, next_family, next_kind, next_long, next_short};
 use crate::scripts::check_script;
-use airy_math::Family;
+use airy_index::Key;
 
-/// Reads the words from left to right: what they ask for, or how many stand before the first that is refused, which is the
-/// first with which no accepted command line begins; a missing word is refused behind all of them.
+/// Reads the words from left to right: what they ask for, or how many stand before the first that is refused. That is the first with
+/// which no command line begins that keeps the rules of the words. A missing word is refused behind all of them, and so are words that
+/// ask for a key or a pair that isn't stable. No memory is taken.
 #[tactic(auto, using(crate::proofs::FirstLaw::refuses_first))]
 pub fn read_words(words: &[String]) -> Asked<'_>
     ensures reading { reading result ≡ reading_of (map string_bytes words.now) }
     ensures refused { RefusesFirst (reading result) (map string_bytes words.now) }
     ensures fit { IsFit result }
 {
-    read_command(words)
-}
-
-/// Reads the command, and the words behind it.
-#[tactic(auto, unfolding(crate::specs::Options::reading_of))]
-fn read_command(words: &[String]) -> Asked<'_>
-    ensures reading { reading result ≡ reading_of (map string_bytes words.now) }
-    ensures fit { IsFit result }
-{
-    match words.split_first() {
-        Some((word, rest)) if word.as_str() == "table" => read_table(behind_first(true, rest)),
-        Some((word, rest)) if word.as_str() == "probe" => read_probe(behind_first(true, rest)),
-        Some((word, rest)) if word.as_str() == "session" => read_session(behind_first(true, rest)),
-        Some((word, rest)) if word.as_str() == "relations" => {
-            read_relations(behind_first(false, rest))
-        }
-        _ => Asked::Refused { before: 0 },
-    }
-}
-
-/// Reads KIND.
-fn read_kind(word: &str) -> Option<Kind>
-    ensures { option_map kind_of result ≡ kind_of_word word.now }
-{
-    match word {
-        "wk" => Some(Kind::Named(Family::Wk)),
-        "bgw" => Some(Kind::Named(Family::Bgw)),
-        "wp" => Some(Kind::Named(Family::Wp)),
-        "-" => Some(Kind::Text),
-        _ => None,
-    }
-}
-
-/// Reads the words behind `table`.
-fn read_table(left: Left<'_>) -> Asked<'_>
-    requires { IsLeft left }
-    ensures reading { reading result ≡ read_table (parted_of left.entry) }
-    ensures fit { IsFit result }
-{
-    match next_word(left) {
-        Next::Word { before, word, left } => match read_kind(word) {
-            Some(kind) => read_table_bound(kind, left),
-            None => Asked::Refused { before },
-        },
-        Next::End { before, workers: _ } | Next::Broken { before } => Asked::Refused { before },
-    }
-}
-
-/// Reads the words behind `table KIND`.
-fn read_table_bound(kind: Kind, left: Left<'_>) -> Asked<'_>
-    requires { IsLeft left }
-    ensures reading { reading result ≡ table_bound (kind_of kind) (parted_of left.entry) }
-    ensures fit { IsFit result }
-{
-    match next_word(left) {
-        Next::Word { before, word, left } => match read_bound(word) {
-            Some(bound) => ends_table(kind, bound, left),
-            None => Asked::Refused { before },
-        },
-        Next::End { before, workers: _ } | Next::Broken { before } => Asked::Refused { before },
-    }
-}
-
-/// Reads the words behind `table KIND X`.
-fn ends_table(kind: Kind, bound: u32, left: Left<'_>) -> Asked<'_>
-    requires { IsLeft left }
-    ensures reading { reading result ≡ ends (λ n. Table (kind_of kind) bound n) (parted_of left.entry) }
-    ensures fit { IsFit result }
-{
-    match next_word(left) {
-        Next::End { before: _, workers } => Asked::Table {
-            kind,
-            bound,
-            workers,
-        },
-        Next::Word { before, .. } | Next::Broken { before } => Asked::Refused { before },
-    }
-}
-
-/// Reads the words behind `probe`.
-fn read_probe(left: Left<'_>) -> Asked<'_>
-    requires { IsLeft left }
-    ensures reading { reading result ≡ read_probe (parted_of left.entry) }
-    ensures fit { IsFit result }
-{
-    match next_word(left) {
-        Next::Word { before, word, left } => match read_bound(word) {
-            Some(bound) => ends_probe(bound, left),
-            None => Asked::Refused { before },
-        },
-        Next::End { before, workers: _ } | Next::Broken { before } => Asked::Refused { before },
-    }
-}
-
-/// Reads the words behind `probe X`.
-fn ends_probe(bound: u32, left: Left<'_>) -> Asked<'_>
-    requires { IsLeft left }
-    ensures reading { reading result ≡ ends (λ n. Probe bound n) (parted_of left.entry) }
-    ensures fit { IsFit result }
-{
-    match next_word(left) {
-        Next::End { before: _, workers } => Asked::Probe { bound, workers },
-        Next::Word { before, .. } | Next::Broken { before } => Asked::Refused { before },
-    }
-}
-
-/// Reads the words behind `session`.
-fn read_session(left: Left<'_>) -> Asked<'_>
-    requires { IsLeft left }
-    ensures reading { reading result ≡ read_session (parted_of left.entry) }
-    ensures fit { IsFit result }
-{
-    match next_word(left) {
-        Next::Word { before, word, left } => match read_kind(word) {
-            Some(kind) => read_session_bound(kind, left),
-            None => Asked::Refused { before },
-        },
-        Next::End { before, workers: _ } | Next::Broken { before } => Asked::Refused { before },
-    }
-}
-
-/// Reads the words behind `session KIND`.
-fn read_session_bound(kind: Kind, left: Left<'_>) -> Asked<'_>
-    requires { IsLeft left }
-    ensures reading { reading result ≡ session_bound (kind_of kind) (parted_of left.entry) }
-    ensures fit { IsFit result }
-{
-    match next_word(left) {
-        Next::Word { before, word, left } => match read_bound(word) {
-            Some(bound) => read_script(kind, bound, left),
-            None => Asked::Refused { before },
-        },
-        Next::End { before, workers: _ } | Next::Broken { before } => Asked::Refused { before },
-    }
-}
-
-/// Reads the words behind `session KIND X`.
-fn read_script(kind: Kind, bound: u32, left: Left<'_>) -> Asked<'_>
-    requires { IsLeft left }
-    ensures reading { reading result ≡ script (Session (kind_of kind) bound) (parted_of left.entry) }
-    ensures fit { IsFit result }
-{
-    match check_script(left) {
-        Ok(workers) => Asked::Session {
-            kind,
-            bound,
-            workers,
-            script: left,
-        },
+    match read_command(words) {
+        Ok(asked) => asked,
         Err(before) => Asked::Refused { before },
     }
 }
 
-/// Reads the words behind `relations`.
-fn read_relations(left: Left<'_>) -> Asked<'_>
+/// Reads the command, and the words behind it.
+#[tactic(auto, unfolding(crate::specs::Options::reading_of, crate::specs::Options::worded_of), using(crate::proofs::StableLemmas::settles))]
+fn read_command(words: &[String]) -> Result<Asked<'_>, usize>
+    ensures reading { reading_by result ≡ reading_of (map string_bytes words.now) }
+    ensures fit { IfOk result IsFit }
+{
+    let Some((word, rest)) = words.split_first() else {
+        return Err(0);
+    };
+    match word.as_str() {
+        "table" => read_table(behind_first(true, rest)),
+        "probe" => read_probe(behind_first(true, rest)),
+        "session" => read_session(behind_first(true, rest)),
+        "relations" => read_relations(behind_first(false, rest)),
+        "number" => read_number(behind_first(false, rest), words.len()),
+        "volume" => read_volume(behind_first(false, rest), words.len()),
+        "bulk" => read_bulk(behind_first(true, rest)),
+        _ => Err(0),
+    }
+}
+
+/// Reads the words behind `table`.
+fn read_table(left: Left<'_>) -> Result<Asked<'_>, usize>
     requires { IsLeft left }
-    ensures reading { reading result ≡ read_relations (parted_of left.entry) }
-    ensures fit { IsFit result }
+    ensures reading { reading_by result ≡ read_table (parted_of left.entry) }
+    ensures fit { IfOk result IsFit }
 {
-    match next_word(left) {
-        Next::Word { before, word, left } => match read_places(word) {
-            Some(places) => read_relations_kind(places, left),
-            None => Asked::Refused { before },
-        },
-        Next::End { before, workers: _ } | Next::Broken { before } => Asked::Refused { before },
-    }
+    let (kind, left) = next_kind(left)?;
+    let (bound, left) = next_long(left)?;
+    let workers = ends(left)?;
+    Ok(Asked::Table {
+        kind,
+        bound,
+        workers,
+    })
 }
 
-/// Reads the words behind `relations N`.
-fn read_relations_kind(places: u8, left: Left<'_>) -> Asked<'_>
-    requires left { IsLeft left }
-    requires places { IsPlaces places }
-    ensures reading { reading result ≡ relations_kind places (parted_of left.entry) }
-    ensures fit { IsFit result }
+/// Reads the words behind `probe`.
+fn read_probe(left: Left<'_>) -> Result<Asked<'_>, usize>
+    requires { IsLeft left }
+    ensures reading { reading_by result ≡ read_probe (parted_of left.entry) }
+    ensures fit { IfOk result IsFit }
 {
-    match next_word(left) {
-        Next::Word { before, word, left } => match read_kind(word) {
-            Some(kind) => ends_relations(places, kind, left),
-            None => Asked::Refused { before },
-        },
-        Next::End { before, workers: _ } | Next::Broken { before } => Asked::Refused { before },
-    }
+    let (bound, left) = next_long(left)?;
+    let workers = ends(left)?;
+    Ok(Asked::Probe { bound, workers })
 }
 
-/// Reads the words behind `relations N KIND`.
-fn ends_relations(places: u8, kind: Kind, left: Left<'_>) -> Asked<'_>
-    requires left { IsLeft left }
-    requires places { IsPlaces places }
-    ensures reading { reading result ≡ ends (λ n. Relations places (kind_of kind)) (parted_of left.entry) }
-    ensures fit { IsFit result }
+/// Reads the words behind `session`.
+#[tactic(auto, using(crate::proofs::ScriptLemmas::one_finish))]
+fn read_session(left: Left<'_>) -> Result<Asked<'_>, usize>
+    requires { IsLeft left }
+    ensures reading { reading_by result ≡ read_session (parted_of left.entry) }
+    ensures fit { IfOk result IsFit }
 {
-    match next_word(left) {
-        Next::End { .. } => Asked::Relations { places, kind },
-        Next::Word { before, .. } | Next::Broken { before } => Asked::Refused { before },
+    let (kind, left) = next_kind(left)?;
+    let (bound, script) = next_long(left)?;
+    let workers = check_script(script)?;
+    Ok(Asked::Session {
+        kind,
+        bound,
+        workers,
+        script,
+    })
+}
+
+/// Reads the words behind `relations`.
+fn read_relations(left: Left<'_>) -> Result<Asked<'_>, usize>
+    requires { IsLeft left }
+    ensures reading { reading_by result ≡ read_relations (parted_of left.entry) }
+    ensures fit { IfOk result IsFit }
+{
+    let (places, left) = next_short(left, 1, 32)?;
+    let (kind, left) = next_kind(left)?;
+    ends(left)?;
+    Ok(Asked::Relations { places, kind })
+}
+
+/// Reads the words behind `number`, of so many words in all.
+#[tactic(auto, unfolding(airy_math::specs::Keys::key_of), using(crate::proofs::StableLemmas::unstable_key))]
+fn read_number(left: Left<'_>, count: usize) -> Result<Asked<'_>, usize>
+    requires { IsLeft left }
+    ensures reading { reading_by result ≡ settled (count + 1) (read_number (parted_of left.entry)) }
+    ensures fit { IfOk result IsFit }
+{
+    let (family, left) = next_family(left)?;
+    let (genus, left) = next_short(left, 0, 255)?;
+    let (first, left) = next_short(left, 0, 255)?;
+    let indices = last_indices(first, left)?;
+    let Ok(key) = Key::of(genus, indices.as_slice()) else {
+        return Err(count);
+    };
+    key.validity_fact();
+    Ok(Asked::Number { family, key })
+}
+
+/// Reads the words behind `volume`, of so many words in all.
+#[tactic(auto, unfolding(airy_math::specs::Keys::euler))]
+fn read_volume(left: Left<'_>, count: usize) -> Result<Asked<'_>, usize>
+    requires { IsLeft left }
+    ensures reading { reading_by result ≡ settled (count + 1) (read_volume (parted_of left.entry)) }
+    ensures fit { IfOk result IsFit }
+{
+    let (genus, left) = next_short(left, 0, 255)?;
+    let (places, left) = next_short(left, 1, 26)?;
+    ends(left)?;
+    if 2 * genus as u16 + places as u16 <= 2 {
+        return Err(count);
     }
+    Ok(Asked::Volume { genus, places })
+}
+
+/// Reads the words behind `bulk`.
+fn read_bulk(left: Left<'_>) -> Result<Asked<'_>, usize>
+    requires { IsLeft left }
+    ensures reading { reading_by result ≡ read_bulk (parted_of left.entry) }
+    ensures fit { IfOk result IsFit }
+{
+    let (seed, left) = next_long(left)?;
+    let (dim, left) = next_short(left, 1, 8)?;
+    let (bound, left) = next_long(left)?;
+    let workers = ends(left)?;
+    Ok(Asked::Bulk {
+        seed,
+        dim,
+        bound,
+        workers,
+    })
 }

@@ -1,15 +1,10 @@
 // The check of every pivot by several threads.
-ghost use Rattle.std.specs.Prelude.{◌≡◌, ◌≢◌, ◌+◌, ◌<◌, ◌≤◌, length, IfOk};
-ghost use Rattle.airy_math.specs.Terms.{pivot_sum};
-ghost use Rattle.airy_math.specs.Series.{Series};
-ghost use Rattle.airy_math.specs.Solutions.{Solves};
+ghost use Rattle.std.specs.Prelude.{◌≡◌, ◌+◌, ◌<◌, ◌≤◌, length, IfOk};
 ghost use Rattle.amp_plan.specs.Plans.{tensors_of, keys_of};
 ghost use Rattle.amp_terms.specs.Tables.{full_table};
-ghost use Rattle.series_law.specs.Uniqueness.{series_of};
-ghost use Rattle.series_law.specs.Pivots.{AllPivots};
-ghost use Rattle.series_law.specs.Check.{check};
-ghost use Rattle.constraint_check.specs.Pivots.{HoldsValues, HasPassed, cut_at};
-ghost use Rattle.constraint_check.specs.Ends.{outcomes_of, values_of, verdict_from, Tells, NamesOver, IfSolution, IfOrders};
+ghost use Rattle.constraint_check.specs.Pivots.{HoldsValues, HasPassed, PassTo, PassInPiece, cut_at};
+ghost use Rattle.constraint_check.specs.Ends.{verdict_from};
+ghost use Rattle.constraint_check.specs.Checked.{IsChecked};
 
 use crate::CheckEnd;
 use crate::keys::{check_passed, key_value};
@@ -31,13 +26,7 @@ pub fn check_crew<R: Threads + Sync>(
     requires outcomes { table.now ≡ full_table (tensors_of plan.now) plan.now.bound }
     requires len { length table.now ≡ length (keys_of plan.now) }
     requires crew { crew ≤ 16 }
-    ensures verdict { Tells plan.now result (check (tensors_of plan.now) plan.now.bound (outcomes_of plan.now)) }
-    ensures over { NamesOver plan.now table.now result }
-    ensures passes { IfSolution result (AllPivots (tensors_of plan.now) plan.now.bound (outcomes_of plan.now)) }
-    ensures solves { IfSolution result (Solves (tensors_of plan.now) plan.now.bound (series_of (tensors_of plan.now) plan.now.bound (outcomes_of plan.now))) }
-    ensures sums { IfOrders result (λ key i v j w. (v ≡ pivot_sum (tensors_of plan.now) (values_of plan.now) key i) × (w ≡ pivot_sum (tensors_of plan.now) (values_of plan.now) key j)) }
-    ensures differ { IfOrders result (λ key i v j w. v ≢ w) }
-    ensures unsolvable { IfOrders result (λ key i v j w. (f : Series) → Solves (tensors_of plan.now) plan.now.bound f → ⊥) }
+    ensures { IsChecked plan.now table.now result }
 {
     check_passed(plan, table, passed_by(rt, alloc, plan, table, crew))
 }
@@ -76,9 +65,7 @@ fn reached<R: Threads + Sync>(
         pieces as usize,
         &|k|
             requires { HoldsValues plan.now table.now × (k < pieces) × (pieces ≤ 17) }
-            ensures low { cut_at (length (keys_of plan.entry.now)) pieces k ≤ result }
-            ensures high { result ≤ cut_at (length (keys_of plan.entry.now)) pieces (k + 1) }
-            ensures passed { verdict_from plan.entry.now (cut_at (length (keys_of plan.entry.now)) pieces k) ≡ verdict_from plan.entry.now result }
+            ensures { PassInPiece plan.entry.now pieces k result }
         { pass_piece(plan, table, pieces, k as u32) },
     )?;
     for k in 0..pieces {
@@ -94,9 +81,7 @@ fn reached<R: Threads + Sync>(
 fn pass_piece(plan: &Plan, table: &Table, pieces: u32, k: u32) -> u32
     requires values { HoldsValues plan.now table.now }
     requires pieces { (k < pieces) × (pieces ≤ 17) }
-    ensures low { cut_at (length (keys_of plan.now)) pieces k ≤ result }
-    ensures high { result ≤ cut_at (length (keys_of plan.now)) pieces (k + 1) }
-    ensures passed { verdict_from plan.now (cut_at (length (keys_of plan.now)) pieces k) ≡ verdict_from plan.now result }
+    ensures { PassInPiece plan.now pieces k result }
 {
     plan.limits_fact();
     let len = plan.len();
@@ -110,9 +95,7 @@ fn pass(plan: &Plan, table: &Table, from: u32, to: u32) -> u32
     requires values { HoldsValues plan.now table.now }
     requires from { from ≤ to }
     requires to { to ≤ length (keys_of plan.now) }
-    ensures low { from ≤ result }
-    ensures high { result ≤ to }
-    ensures passed { verdict_from plan.now from ≡ verdict_from plan.now result }
+    ensures { PassTo plan.now from to result }
 {
     airy_math::planned_once();
     for rank in from..to {

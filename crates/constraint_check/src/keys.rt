@@ -1,14 +1,10 @@
-ghost use Rattle.std.specs.Prelude.{◌≡◌, ◌≢◌, ◌<◌, ◌≤◌, length};
-ghost use Rattle.airy_math.specs.Terms.{pivot_sum};
-ghost use Rattle.airy_math.specs.Series.{Series};
-ghost use Rattle.airy_math.specs.Solutions.{Solves};
+ghost use Rattle.std.specs.Prelude.{◌≡◌, ◌<◌, ◌≤◌, length};
 ghost use Rattle.amp_plan.specs.Plans.{tensors_of, keys_of, key_at};
 ghost use Rattle.amp_terms.specs.Tables.{full_table};
-ghost use Rattle.series_law.specs.Uniqueness.{series_of};
-ghost use Rattle.series_law.specs.Pivots.{AllPivots};
 ghost use Rattle.series_law.specs.Check.{check};
 ghost use Rattle.constraint_check.specs.Pivots.{HoldsValues, HasPassed};
-ghost use Rattle.constraint_check.specs.Ends.{outcomes_of, values_of, verdict_from, Tells, NamesOver, IfSolution, IfOrders};
+ghost use Rattle.constraint_check.specs.Ends.{outcomes_of, values_of, verdict_from, Tells, NamesOver};
+ghost use Rattle.constraint_check.specs.Checked.{IsChecked};
 
 use crate::CheckEnd;
 use crate::pivots::{PivotsEnd, check_pivots};
@@ -29,13 +25,7 @@ use frac128::Frac;
 pub fn check_table(plan: &Plan, table: &Table) -> CheckEnd
     requires outcomes { table.now ≡ full_table (tensors_of plan.now) plan.now.bound }
     requires len { length table.now ≡ length (keys_of plan.now) }
-    ensures verdict { Tells plan.now result (check (tensors_of plan.now) plan.now.bound (outcomes_of plan.now)) }
-    ensures over { NamesOver plan.now table.now result }
-    ensures passes { IfSolution result (AllPivots (tensors_of plan.now) plan.now.bound (outcomes_of plan.now)) }
-    ensures solves { IfSolution result (Solves (tensors_of plan.now) plan.now.bound (series_of (tensors_of plan.now) plan.now.bound (outcomes_of plan.now))) }
-    ensures sums { IfOrders result (λ key i v j w. (v ≡ pivot_sum (tensors_of plan.now) (values_of plan.now) key i) × (w ≡ pivot_sum (tensors_of plan.now) (values_of plan.now) key j)) }
-    ensures differ { IfOrders result (λ key i v j w. v ≢ w) }
-    ensures unsolvable { IfOrders result (λ key i v j w. (f : Series) → Solves (tensors_of plan.now) plan.now.bound f → ⊥) }
+    ensures { IsChecked plan.now table.now result }
 {
     check_passed(plan, table, 0)
 }
@@ -45,13 +35,7 @@ pub(crate) fn check_passed(plan: &Plan, table: &Table, passed: u32) -> CheckEnd
     requires outcomes { table.now ≡ full_table (tensors_of plan.now) plan.now.bound }
     requires len { length table.now ≡ length (keys_of plan.now) }
     requires passed { HasPassed plan.now table.now passed }
-    ensures verdict { Tells plan.now result (check (tensors_of plan.now) plan.now.bound (outcomes_of plan.now)) }
-    ensures over { NamesOver plan.now table.now result }
-    ensures passes { IfSolution result (AllPivots (tensors_of plan.now) plan.now.bound (outcomes_of plan.now)) }
-    ensures solves { IfSolution result (Solves (tensors_of plan.now) plan.now.bound (series_of (tensors_of plan.now) plan.now.bound (outcomes_of plan.now))) }
-    ensures sums { IfOrders result (λ key i v j w. (v ≡ pivot_sum (tensors_of plan.now) (values_of plan.now) key i) × (w ≡ pivot_sum (tensors_of plan.now) (values_of plan.now) key j)) }
-    ensures differ { IfOrders result (λ key i v j w. v ≢ w) }
-    ensures unsolvable { IfOrders result (λ key i v j w. (f : Series) → Solves (tensors_of plan.now) plan.now.bound f → ⊥) }
+    ensures { IsChecked plan.now table.now result }
 {
     plan.tensors().soundness_fact();
     series_law::check();

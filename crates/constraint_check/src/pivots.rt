@@ -1,11 +1,10 @@
 ghost use Rattle.std.specs.Prelude.{◌≡◌, ◌<◌};
 ghost use Rattle.airy_math.specs.Keys.{times};
 ghost use Rattle.airy_math.specs.Planned.{IsPlanned};
-ghost use Rattle.airy_math.specs.Terms.{obtained_pivot_sum};
 ghost use Rattle.amp_plan.specs.Plans.{tensors_of};
-ghost use Rattle.series_law.specs.Check.{Verdict, other_pivots, judged, check_pivots};
+ghost use Rattle.series_law.specs.Check.{other_pivots, judged, check_pivots};
 ghost use Rattle.constraint_check.specs.Ends.{values_of};
-ghost use Rattle.constraint_check.specs.Pivots.{HoldsValues, verdict_after};
+ghost use Rattle.constraint_check.specs.Pivots.{HoldsValues, EndSo, obtained_at};
 
 use airy_index::Key;
 use amp_plan::Plan;
@@ -53,7 +52,7 @@ fn pivot_sum(plan: &Plan, table: &Table, key: &Key, pivot: u8) -> Option<Frac>
     requires values { HoldsValues plan.now table.now }
     requires planned { IsPlanned (tensors_of plan.now) plan.now.bound key.now }
     requires pivot { 0 < times pivot key.now.idx }
-    ensures { result ≡ obtained_pivot_sum (tensors_of plan.now) (values_of plan.now) key.now pivot }
+    ensures { result ≡ obtained_at plan.now key.now pivot }
 {
     airy_math::planned_once();
     airy_math::ranks();
@@ -66,7 +65,7 @@ fn check_pivot(plan: &Plan, table: &Table, key: &Key, value: Frac, pivot: u8) ->
     requires values { HoldsValues plan.now table.now }
     requires planned { IsPlanned (tensors_of plan.now) plan.now.bound key.now }
     requires pivot { 0 < times pivot key.now.idx }
-    ensures { (next : Verdict) → judged key.now value pivot (obtained_pivot_sum (tensors_of plan.now) (values_of plan.now) key.now pivot) next ≡ verdict_after key.now value result next }
+    ensures { EndSo key.now value (judged key.now value pivot (obtained_at plan.now key.now pivot)) result }
 {
     match pivot_sum(plan, table, key, pivot) {
         None => PivotsEnd::Over { pivot },
@@ -80,7 +79,7 @@ pub(crate) fn check_pivots(plan: &Plan, table: &Table, key: &Key, value: Frac) -
     requires values { HoldsValues plan.now table.now }
     requires planned { IsPlanned (tensors_of plan.now) plan.now.bound key.now }
     requires value { value ≡ values_of plan.now key.now }
-    ensures { (next : Verdict) → check_pivots (tensors_of plan.now) (values_of plan.now) key.now (other_pivots key.now) next ≡ verdict_after key.now value result next }
+    ensures { EndSo key.now value (check_pivots (tensors_of plan.now) (values_of plan.now) key.now (other_pivots key.now)) result }
 {
     let indices = key.idx();
     for at in 1..indices.len() {

@@ -13,9 +13,15 @@ fn steady(alloc: Global, text: &[u8]) -> Result<SteadySource, AllocError> {
     })
 }
 
-fn refusal(alloc: Global, text: &[u8]) -> Result<Option<TextErr>, AllocError> {
+fn tensors_of(alloc: Global, text: &[u8]) -> Result<Tensors, Fail> {
     let mut source = steady(alloc, text)?;
-    Ok(read_tensors(alloc, &mut source).err())
+    Ok(read_tensors(alloc, &mut source)?)
+}
+
+/// Whether a text has this refusal.
+fn is_refused(alloc: Global, text: &[u8], wanted: TextErr) -> Result<bool, AllocError> {
+    let mut source = steady(alloc, text)?;
+    Ok(read_tensors(alloc, &mut source).err() == Some(wanted))
 }
 
 fn room(alloc: Global, fail_at: Vec<u32>) -> Result<MemSink, AllocError> {
@@ -28,23 +34,50 @@ fn room(alloc: Global, fail_at: Vec<u32>) -> Result<MemSink, AllocError> {
     })
 }
 
-#[test]
-fn ones_are_read_byte_by_byte_and_written_again(rt: HostRuntime) -> Result<(), Fail> {
-    let alloc = rt.alloc();
+/// Whether writing the tensors, where the calls `fail_at` fail, ends so and leaves this text.
+fn is_written(
+    alloc: Global,
+    tensors: &Tensors,
+    fail_at: Vec<u32>,
+    end: Result<(), Failed>,
+    text: &[u8],
+) -> bool {
+    if tensors.dim() > 32 || tensors.shape() != Shape::All {
+        return false;
+    }
+    match room(alloc, fail_at) {
+        Ok(mut sink) => {
+            write_tensors(tensors, &mut sink) == end && &sink.space[..sink.taken] == text
+        }
+        Err(_) => false,
+    }
+}
+
+fn are_ones(tensors: &Tensors) -> bool {
+    tensors.dim() == 1
+        && tensors.shape() == Shape::All
+        && tensors.a(0, 0, 0).parts() == (1, 1)
+        && tensors.b(0, 0, 0).parts() == (1, 1)
+        && tensors.c(0, 0, 0).parts() == (1, 1)
+        && tensors.d(0).parts() == (1, 8)
+}
+
+fn ones_byte_by_byte(alloc: Global) -> Result<Tensors, Fail> {
     let mut slow = SlowSource {
         bytes: Vec::from_slice(alloc, ONES)?,
         at: 0,
     };
-    let tensors = read_tensors(alloc, &mut slow).map_err(|_| "ones")?;
-    assert_eq!(rt; tensors.dim(), 1);
-    assert_eq!(rt; tensors.shape(), Shape::All);
-    assert_eq!(rt; tensors.a(0, 0, 0).parts(), (1, 1));
-    assert_eq!(rt; tensors.b(0, 0, 0).parts(), (1, 1));
-    assert_eq!(rt; tensors.c(0, 0, 0).parts(), (1, 1));
-    assert_eq!(rt; tensors.d(0).parts(), (1, 8));
-    let mut sink = room(alloc, Vec::new(alloc))?;
-    assert_eq!(rt; write_tensors(&tensors, &mut sink), Ok(()));
-    assert_eq!(rt; &sink.space[..sink.taken], ONES);
+    Ok(read_tensors(alloc, &mut slow)?)
+}
+
+fn ones_come_back(alloc: Global) -> Result<bool, Fail> {
+    let tensors = ones_byte_by_byte(alloc)?;
+    Ok(are_ones(&tensors) && is_written(alloc, &tensors, Vec::new(alloc), Ok(()), ONES))
+}
+
+#[test]
+fn ones_are_read_byte_by_byte_and_written_again(rt: HostRuntime) -> Result<(), Fail> {
+    assert!(rt; ones_come_back(rt.alloc())?);
     Ok(())
 }
 
@@ -73,16 +106,22 @@ const BROKEN: [(&[u8], u32, LineKind); 14] = [
     (b"airy 1\ndim 1\nend\n\nend\n", 5, LineKind::After),
 ];
 
-#[test]
-fn the_first_refused_line(rt: HostRuntime) -> Result<(), Fail> {
-    let alloc = rt.alloc();
-    for (text, line, kind) in &BROKEN {
+fn are_refused(alloc: Global, texts: &[(&[u8], u32, LineKind)]) -> Result<bool, AllocError> {
+    for (text, line, kind) in texts {
         let wanted = TextErr::Line {
             line: *line,
             kind: *kind,
         };
-        assert_eq!(rt; refusal(alloc, *text)?, Some(wanted));
+        if !is_refused(alloc, *text, wanted)? {
+            return Ok(false);
+        }
     }
+    Ok(true)
+}
+
+#[test]
+fn the_first_refused_line(rt: HostRuntime) -> Result<(), Fail> {
+    assert!(rt; are_refused(rt.alloc(), &BROKEN)?);
     Ok(())
 }
 
@@ -104,112 +143,162 @@ const CUTS: [(u32, u32, LineKind); 14] = [
     (2, 7, LineKind::Word),
 ];
 
-#[test]
-fn a_text_cut_at_each_byte(rt: HostRuntime) -> Result<(), Fail> {
-    let alloc = rt.alloc();
+/// Whether that many cuts of the text of ones, the shortest of this size, have this refusal.
+fn are_cuts_refused(
+    alloc: Global,
+    size: usize,
+    count: u32,
+    wanted: TextErr,
+) -> Result<bool, AllocError> {
+    for more in 0..count {
+        let cut = ONES
+            .get(..size.saturating_add(more as usize))
+            .unwrap_or(ONES);
+        if !is_refused(alloc, cut, wanted)? {
+            return Ok(false);
+        }
+    }
+    Ok(true)
+}
+
+/// Whether these are the refusals of all proper cuts of the text of ones.
+fn are_all_cuts_refused(alloc: Global, cuts: &[(u32, u32, LineKind)]) -> Result<bool, AllocError> {
     let mut size: usize = 0;
-    for (count, line, kind) in &CUTS {
+    for (count, line, kind) in cuts {
         let wanted = TextErr::Line {
             line: *line,
             kind: *kind,
         };
-        for _ in 0..*count {
-            let cut = ONES.get(..size).unwrap_or(ONES);
-            assert_eq!(rt; refusal(alloc, cut)?, Some(wanted), "at {size}");
-            size = size.saturating_add(1);
+        if !are_cuts_refused(alloc, size, *count, wanted)? {
+            return Ok(false);
         }
+        size = size.saturating_add(*count as usize);
     }
-    assert_eq!(rt; size, ONES.len() - 1);
+    Ok(size == ONES.len() - 1)
+}
+
+#[test]
+fn a_text_cut_at_each_byte(rt: HostRuntime) -> Result<(), Fail> {
+    assert!(rt; are_all_cuts_refused(rt.alloc(), &CUTS)?);
     Ok(())
+}
+
+fn are_noted(tensors: &Tensors) -> bool {
+    tensors.dim() == 2
+        && tensors.c(0, 1, 0).parts() == (1, 2)
+        && tensors.c(1, 0, 0).parts() == (0, 1)
 }
 
 #[test]
 fn notes_blanks_and_zeros(rt: HostRuntime) -> Result<(), Fail> {
-    let alloc = rt.alloc();
     let text =
         b"\t\n#\xff\x00 any bytes\nairy\t1\r\n\r\n dim  02 \r\nC 0 00 1 +2/4\r\nC 0 1 0 -0\nend";
-    let mut source = steady(alloc, text.as_slice())?;
-    let tensors = read_tensors(alloc, &mut source).map_err(|_| "noted")?;
-    assert_eq!(rt; tensors.dim(), 2);
-    assert_eq!(rt; tensors.c(0, 1, 0).parts(), (1, 2));
-    assert_eq!(rt; tensors.c(1, 0, 0).parts(), (0, 1));
+    let tensors = tensors_of(rt.alloc(), text.as_slice())?;
+    assert!(rt; are_noted(&tensors));
     Ok(())
 }
 
-fn parts_of(word: &[u8]) -> Option<(i128, i128)> {
-    Some(read_value(word)?.parts())
+fn has_parts(word: &[u8], num: i128, den: i128) -> bool {
+    match read_value(word) {
+        Some(value) => value.parts() == (num, den),
+        None => false,
+    }
+}
+
+fn are_values() -> bool {
+    has_parts(b"+0006/0008", 3, 4)
+        && has_parts(
+            b"-170141183460469231731687303715884105727",
+            -170141183460469231731687303715884105727,
+            1,
+        )
+        && has_parts(b"0000000000000000000000000000000000000000000001", 1, 1)
+        && has_parts(b"-0", 0, 1)
+}
+
+fn are_no_values() -> bool {
+    read_value(b"9999999999999999999999999999999999999999") == None
+        && read_value(b"+-1") == None
+        && read_value(b"1/2/3") == None
+        && read_value(b"1/") == None
 }
 
 #[test]
 fn values(rt: HostRuntime) {
-    let great: i128 = 170141183460469231731687303715884105727;
-    assert_eq!(rt; parts_of(b"+0006/0008"), Some((3, 4)));
-    assert_eq!(rt;
-        parts_of(b"-170141183460469231731687303715884105727"),
-        Some((-great, 1))
-    );
-    assert_eq!(rt;
-        parts_of(b"0000000000000000000000000000000000000000000001"),
-        Some((1, 1))
-    );
-    assert_eq!(rt; parts_of(b"-0"), Some((0, 1)));
-    assert_eq!(rt; parts_of(b"9999999999999999999999999999999999999999"), None);
-    assert_eq!(rt; parts_of(b"+-1"), None);
-    assert_eq!(rt; parts_of(b"1/2/3"), None);
-    assert_eq!(rt; parts_of(b"1/"), None);
+    assert!(rt; are_values());
+    assert!(rt; are_no_values());
+}
+
+fn failing_source(alloc: Global) -> Result<MemSource, AllocError> {
+    let fail_at = vec![in alloc; 1u32]?;
+    Ok(MemSource {
+        bytes: Vec::from_slice(alloc, ONES)?,
+        at: 0,
+        fail_at,
+        calls: 0,
+        faults: 0,
+    })
 }
 
 #[test]
 fn a_source_that_fails_in_mid_text(rt: HostRuntime) -> Result<(), Fail> {
-    let alloc = rt.alloc();
-    let mut source = MemSource {
-        bytes: Vec::from_slice(alloc, ONES)?,
-        at: 0,
-        fail_at: vec![in alloc; 1u32]?,
-        calls: 0,
-        faults: 0,
-    };
-    assert_eq!(rt;
-        read_tensors(alloc, &mut source).err(),
-        Some(TextErr::ReadFault)
-    );
-    assert_eq!(rt; source.faults, 1);
+    let mut source = failing_source(rt.alloc())?;
+    assert!(rt; read_tensors(rt.alloc(), &mut source).err() == Some(TextErr::ReadFault));
+    assert!(rt; source.faults == 1);
     Ok(())
+}
+
+/// Whether the text of that many signs of a note has this refusal.
+fn is_note_refused(alloc: Global, len: usize, wanted: TextErr) -> Result<bool, AllocError> {
+    let bytes = vec![in alloc; b'#'; len]?;
+    is_refused(alloc, bytes.as_slice(), wanted)
 }
 
 #[test]
 fn the_longest_text(rt: HostRuntime) -> Result<(), Fail> {
-    let alloc = rt.alloc();
-    let wanted = TextErr::Line {
+    let no_header = TextErr::Line {
         line: 2,
         kind: LineKind::Header,
     };
-    let mut bytes = vec![in alloc; b'#'; 1_048_576]?;
-    assert_eq!(rt; refusal(alloc, bytes.as_slice())?, Some(wanted));
-    bytes.push(b'#')?;
-    assert_eq!(rt; refusal(alloc, bytes.as_slice())?, Some(TextErr::TooLong));
+    assert!(rt; is_note_refused(rt.alloc(), 1_048_576, no_header)?);
+    assert!(rt; is_note_refused(rt.alloc(), 1_048_577, TextErr::TooLong)?);
     Ok(())
+}
+
+fn disordered(alloc: Global) -> Result<Tensors, Fail> {
+    let text =
+        b"airy 1\ndim 12\nD 11 1\nC 2 1 0 -7\nB 0 1 0 3\nA 10 0 0 5\nD 0 1/8\nB 0 0 1 2\nA 0 11 1 -2/6\nend\n";
+    tensors_of(alloc, text.as_slice())
+}
+
+/// Whether the tensors are written in the canonical order.
+fn is_ordered(alloc: Global, tensors: &Tensors) -> bool {
+    let ordered =
+        b"airy 1\ndim 12\nA 0 1 11 -1/3\nA 10 0 0 5\nB 0 0 1 2\nB 0 1 0 3\nC 2 0 1 -7\nD 0 1/8\nD 11 1\nend\n";
+    is_written(alloc, tensors, Vec::new(alloc), Ok(()), ordered.as_slice())
+}
+
+/// Whether a sink that fails at its call 3 is left with the lines before.
+fn is_cut_short(alloc: Global, tensors: &Tensors) -> bool {
+    let text = b"airy 1\ndim 12\nA 0 1 11 -1/3\n".as_slice();
+    match vec![in alloc; 3u32] {
+        Ok(fail_at) => is_written(alloc, tensors, fail_at, Err(Failed), text),
+        Err(_) => false,
+    }
+}
+
+fn has_canonical_order(alloc: Global) -> Result<bool, Fail> {
+    let tensors = disordered(alloc)?;
+    Ok(
+        tensors.dim() == 12
+            && tensors.shape() == Shape::All
+            && is_ordered(alloc, &tensors)
+            && is_cut_short(alloc, &tensors),
+    )
 }
 
 #[test]
 fn the_canonical_order(rt: HostRuntime) -> Result<(), Fail> {
-    let alloc = rt.alloc();
-    let text =
-        b"airy 1\ndim 12\nD 11 1\nC 2 1 0 -7\nB 0 1 0 3\nA 10 0 0 5\nD 0 1/8\nB 0 0 1 2\nA 0 11 1 -2/6\nend\n";
-    let ordered =
-        b"airy 1\ndim 12\nA 0 1 11 -1/3\nA 10 0 0 5\nB 0 0 1 2\nB 0 1 0 3\nC 2 0 1 -7\nD 0 1/8\nD 11 1\nend\n";
-    let mut source = steady(alloc, text.as_slice())?;
-    let tensors = read_tensors(alloc, &mut source).map_err(|_| "disordered")?;
-    assert_eq!(rt; tensors.dim(), 12);
-    assert_eq!(rt; tensors.shape(), Shape::All);
-    let mut sink = room(alloc, Vec::new(alloc))?;
-    assert_eq!(rt; write_tensors(&tensors, &mut sink), Ok(()));
-    assert_eq!(rt; &sink.space[..sink.taken], ordered.as_slice());
-    let mut failing = room(alloc, vec![in alloc; 3u32]?)?;
-    assert_eq!(rt; write_tensors(&tensors, &mut failing), Err(Failed));
-    assert_eq!(rt;
-        &failing.space[..failing.taken],
-        b"airy 1\ndim 12\nA 0 1 11 -1/3\n".as_slice()
-    );
+    assert!(rt; has_canonical_order(rt.alloc())?);
     Ok(())
 }

@@ -2,7 +2,7 @@ use Rattle.std.proofs.Common.{◌∙◌, ap, inl, subst, sym}
 use Rattle.amp_plan.specs.Plans.{Planning, tensors_of}
 use Rattle.amp_terms.specs.Tables.{full_table}
 use Rattle.airyrun.specs.Report.{Ends}
-use Rattle.airyrun.specs.Tables.{cells_report}
+use Rattle.airyrun.specs.Forms.{formed_cells}
 use Rattle.airyrun.proofs.tables.fill_and_print.Goals as goal
 
 pub check_and_print-requires-clause-full : goal.check_and_print-requires-clause-full
@@ -11,5 +11,5 @@ check_and_print-requires-clause-full g c κs within =
 
 pub returns-in-Ok : goal.returns-in-Ok
 returns-in-Ok g c =
-    inl (subst (λ (p : Planning). Ends (cells_report p.tensors.letter (tensors_of p) p.bound) (g.W.Sink.state c.args.out.now) (g.W.Sink.state c.check_and_print.new.out) c.check_and_print.result)
+    inl (subst (λ (p : Planning). Ends (formed_cells c.args.form p) (g.W.Sink.state c.args.out.now) (g.W.Sink.state c.check_and_print.new.out) c.check_and_print.result)
     c.in-Ok.ensures.plan c.check_and_print.ensures)

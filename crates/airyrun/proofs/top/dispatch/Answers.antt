@@ -1,5 +1,5 @@
 use Rattle.std.proofs.Common.{arith, refl, ◌+◌, ◌≡◌, ◌∙◌, ap, sym}
-use Rattle.command_words.specs.Words.{Named, Text, Table, Session, Probe, Relations}
+use Rattle.command_words.specs.Words.{Named, Text, Table, Session, Probe, Relations, Number, Volume, Bulk}
 use Rattle.command_words.specs.Words as words
 use Rattle.command_words.specs.Asked.{kind_of, parted_of}
 use Rattle.command_words.specs.Options.{lines_of}
@@ -7,7 +7,10 @@ use Rattle.command_words.specs.declared.asked.Kind.{Kind}
 use Rattle.command_words.specs.declared.asked.Kind.TheVariants as kinds
 use Rattle.airyrun.specs.Report.{word_refused}
 use Rattle.airyrun.specs.Run.{LeadsToClosedSession, LeadsToClosedTable, LeadsToProbe, LeadsToTextRelations}
-use Rattle.airyrun.proofs.RunLemmas.{answers_from_ends, answers_from_family, answers_from_session, answers_with_bound, answers_from_relations, answers_of_text, other_probe, other_closed_table, other_closed_session, other_text_relations}
+use Rattle.airyrun.specs.Numbers.{LeadsToNumber, LeadsToVolume}
+use Rattle.airyrun.specs.Bulks.{LeadsToBulk}
+use Rattle.airyrun.specs.Tables.{structure_of}
+use Rattle.airyrun.proofs.RunLemmas.{answers_from_ends, answers_from_family, answers_from_session, answers_with_bound, answers_from_relations, answers_of_text, answers_without_text, other_number, other_volume, other_bulk, other_probe, other_closed_table, other_closed_session, other_text_relations}
 use Rattle.airyrun.proofs.top.dispatch.Goals as goal
 
 pub returns-in-Refused : goal.returns-in-Refused
@@ -51,3 +54,18 @@ returns-in-Session-Text-default-default-default g c =
     let in_Text = c.in-Session-Text-default-default-default in let lines = lines_of (parted_of in_Text.script) in
     answers_with_bound _ (Session Text in_Text.bound in_Text.workers lines) in_Text.bound (LeadsToClosedSession in_Text.bound in_Text.workers lines)
     (of_kind (λ k. Session k in_Text.bound in_Text.workers lines) _ in_Text.kind kinds.Text in_Text.kind-is (in_Text.ensures.reading)) (λ r l. l) (λ h. h) (other_closed_session in_Text.bound in_Text.workers lines) c.session_of_text.ensures
+
+pub returns-in-Number : goal.returns-in-Number
+returns-in-Number g c =
+    let number = c.in-Number in
+    answers_without_text _ (Number number.family number.key) (LeadsToNumber (structure_of number.family) number.key) number.ensures.reading (λ r l. l) (other_number number.family number.key) refl c.number_of_family.ensures
+
+pub returns-in-Volume : goal.returns-in-Volume
+returns-in-Volume g c =
+    let volume = c.in-Volume in
+    answers_without_text _ (Volume volume.genus volume.places) (LeadsToVolume volume.genus volume.places) volume.ensures.reading (λ r l. l) (other_volume volume.genus volume.places) refl c.volume_of_pair.ensures
+
+pub returns-in-Bulk : goal.returns-in-Bulk
+returns-in-Bulk g c =
+    let bulk = c.in-Bulk in
+    answers_without_text _ (Bulk bulk.seed bulk.dim bulk.bound bulk.workers) (LeadsToBulk bulk.seed bulk.dim bulk.bound) bulk.ensures.reading (λ r l. l) (other_bulk bulk.seed bulk.dim bulk.bound) refl c.bulk.ensures

@@ -1,6 +1,4 @@
-use Rattle.std.proofs.Common.{◌≡◌, ℕ, ◌+◌, ◌<◌, ◌≤◌, arith, ap, ◌∙◌, sym, subst}
-use Rattle.constraint_check.specs.Ends.{verdict_from}
-use Rattle.constraint_check.specs.Pivots.{cut_at}
+use Rattle.std.proofs.Common.{◌+◌, arith}
 use Rattle.constraint_check.proofs.PieceLemmas.{cut_up, cut_within}
 use Rattle.constraint_check.proofs.crew.pass_piece.Goals as goal
 
@@ -10,11 +8,5 @@ pass-requires-clause-from c = omega (arith, c.cut-from.ensures, c.cut-to.ensures
 pub pass-requires-clause-to : goal.pass-requires-clause-to
 pass-requires-clause-to c = omega (arith, c.cut-to.ensures, c.len-len.ensures, cut_within c.len-len.result c.args.pieces (c.args.k + 1) (omega (arith, c.requires.pieces.0)))
 
-pub returns-clause-low : goal.returns-clause-low
-returns-clause-low c = subst (λ n. cut_at n c.args.pieces c.args.k ≤ c.pass.result) c.len-len.ensures (omega (arith, c.cut-from.ensures, c.pass.ensures.low))
-
-pub returns-clause-high : goal.returns-clause-high
-returns-clause-high c = subst (λ n. c.pass.result ≤ cut_at n c.args.pieces (c.args.k + 1)) c.len-len.ensures (omega (arith, c.cut-to.ensures, c.pass.ensures.high))
-
-pub returns-clause-passed : goal.returns-clause-passed
-returns-clause-passed c = ap (λ n. verdict_from c.args.plan.now (cut_at n c.args.pieces c.args.k)) (sym c.len-len.ensures) ∙ ap (verdict_from c.args.plan.now) (sym c.cut-from.ensures) ∙ c.pass.ensures.passed
+pub returns : goal.returns
+returns c = rw (← c.len-len.ensures, ← c.cut-from.ensures, ← c.cut-to.ensures) c.pass.ensures

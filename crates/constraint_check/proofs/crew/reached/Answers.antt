@@ -1,4 +1,4 @@
-use Rattle.std.proofs.Common.{◌≡◌, ℕ, ◌+◌, ◌<◌, ◌≤◌, length, get_or, arith, sym, ap, ◌∙◌}
+use Rattle.std.proofs.Common.{◌≡◌, ℕ, ◌+◌, length, get_or, arith, sym, ap, ◌∙◌}
 use Rattle.amp_plan.specs.Plans.{keys_of}
 use Rattle.constraint_check.specs.Ends.{verdict_from}
 use Rattle.constraint_check.specs.Pivots.{cut_at}
@@ -14,15 +14,15 @@ loop-k-preserved g c =
     let piece = c.in_ok-ranks.ensures.each k r (omega (arith, c.loop-k-test.true)) in
     let is : r ≡ get_or c.in_ok-ranks.ranks.items k r = c.index-rank.ensures in
     let end : c.cut.result ≡ cut_at n c.args.pieces (k + 1) = c.cut.ensures ∙ ap (λ m. cut_at m c.args.pieces (k + 1)) c.len-len.ensures in
-    let whole : r ≡ cut_at n c.args.pieces (k + 1) = (let high = piece.1.met.1.0 in omega (arith, is, high, end, c.if-rank-cut.false)) in
-    c.loop-k.invariant ∙ piece.1.met.1.1 ∙ ap (verdict_from p) (sym is ∙ whole)
+    let whole : r ≡ cut_at n c.args.pieces (k + 1) = (let high = piece.1.met.high in omega (arith, is, high, end, c.if-rank-cut.false)) in
+    c.loop-k.invariant ∙ piece.1.met.passed ∙ ap (verdict_from p) (sym is ∙ whole)
 
 pub returns-then-rank-cut-clause-within : goal.returns-then-rank-cut-clause-within
 returns-then-rank-cut-clause-within g c =
     let p = c.args.plan.now in let n = length (keys_of p) in let k : ℕ = c.loop-k.k in let r : ℕ = c.index-rank.result.now in
     let piece = c.in_ok-ranks.ensures.each k r (omega (arith, c.loop-k-test.true)) in
     let is : r ≡ get_or c.in_ok-ranks.ranks.items k r = c.index-rank.ensures in
-    (let high = piece.1.met.1.0 in omega (arith, is, high, cut_within n c.args.pieces (k + 1) (omega (arith, c.loop-k-test.true))))
+    (let high = piece.1.met.high in omega (arith, is, high, cut_within n c.args.pieces (k + 1) (omega (arith, c.loop-k-test.true))))
 
 pub returns-clause-passed : goal.returns-clause-passed
 returns-clause-passed g c =

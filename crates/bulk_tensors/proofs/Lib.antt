@@ -1,0 +1,6 @@
+pub mod BulkLaw
+pub mod ChangeLemmas
+pub mod DiagonalLemmas
+pub mod FilledLemmas
+pub mod FullLemmas
+pub mod PutLemmas

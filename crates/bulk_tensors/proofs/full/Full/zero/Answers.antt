@@ -1,0 +1,7 @@
+use Rattle.std.proofs.Common.{ap, replicate}
+use Rattle.airy_math.specs.RationalLaws.{0ℚ}
+use Rattle.bulk_tensors.proofs.full.Full.zero.Goals as goal
+
+pub returns : goal.returns
+unfolding 0ℚ
+returns c = ap (replicate 512) c.whole.ensures

@@ -1,0 +1,35 @@
+use Rattle.std.proofs.Common.{◌≡◌, ◌<◌, ◌+◌, get_or, ap, ap₂, sym, subst, ◌∙◌, arith}
+use Rattle.std.proofs.lemmas.List.{get_or_default}
+use Rattle.std.proofs.lemmas.Result.{on_ok_weaker}
+use Rattle.airy_math.specs.RationalLaws.{0ℚ}
+use Rattle.sparse_tensor.specs.Entries.{Entries}
+use Rattle.sparse_tensor.specs.Puts.{putting_d}
+use Rattle.bulk_tensors.specs.Full.{Lists}
+use Rattle.bulk_tensors.specs.Filled.{AreFilled}
+use Rattle.bulk_tensors.proofs.PutLemmas.{allowed_wanting, allowed_d, at_ok}
+use Rattle.bulk_tensors.proofs.FilledLemmas.{d_zero, filled_d}
+use Rattle.bulk_tensors.proofs.full_tensors.FullTensors.put_d.Goals as goal
+
+pub unless_wanting-requires : goal.unless_wanting-requires
+unless_wanting-requires c =
+    let t = c.args.tensors.now in
+    let from = c.args.self.now in
+    let i = c.args.i in
+    let v = get_or c.self.inside.d c.from.result c.index-self-from.result in
+    let zero = d_zero 512 512 512 i from t c.requires.below c.requires.before in
+    let allowed = allowed_d t i v c.soundness_fact.ensures.entries (subst (λ d. i < d) (sym c.requires.before.dim) c.requires.below) c.requires.before.shape zero in
+    allowed_wanting (putting_d t i v) c.put_d.result allowed c.put_d.ensures.index.0 c.put_d.ensures.grade.0 c.put_d.ensures.twice.0
+
+pub returns : goal.returns
+returns c =
+    let t = c.args.tensors.now in
+    let from = c.args.self.now in
+    let i = c.args.i in
+    let v = get_or c.self.inside.d c.from.result c.index-self-from.result in
+    let dim : c.self.inside.dim ≡ from.dim = ap (λ (u : Lists). u.dim) c.self.view_is in
+    let value : v ≡ get_or from.d i 0ℚ =
+    get_or_default c.self.inside.d c.from.result c.index-self-from.result 0ℚ (omega arith) ∙ ap₂ (λ d n. get_or d n 0ℚ) (ap (λ (u : Lists). u.d) c.self.view_is) c.from.ensures in
+    let next = filled_d 512 512 512 from t i v c.soundness_fact.ensures.entries c.requires.below value c.requires.before in
+    on_ok_weaker c.unless_wanting.result
+    (λ ok. subst (λ (u : Entries). AreFilled 512 512 512 (i + 1) from u) (sym (at_ok c.put_d.result ok c.put_d.ensures.put)) next)
+    c.unless_wanting.ensures

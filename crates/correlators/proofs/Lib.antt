@@ -1,0 +1,12 @@
+pub mod DivisionLemmas
+pub mod PairLemmas
+pub mod ListLemmas
+pub mod ExactLemmas
+pub mod NumberLaw
+pub mod RefusalLemmas
+pub mod TermLemmas
+pub mod AddLemmas
+pub mod OrderLemmas
+pub mod ListedLemmas
+pub mod VolumeLaw
+pub mod CountLemmas

@@ -1,0 +1,7 @@
+use Rattle.std.proofs.Common.{◌≡◌}
+use Rattle.correlators.specs.Volumes.{keys_of_pair, value_of, first_lacking}
+use Rattle.correlators.proofs.PairLemmas.{lacking_from}
+use Rattle.correlators.proofs.coefficients.first_without.Given as goal
+
+abbrev pub invariant-loop-rank : goal.invariant-loop-rank
+invariant-loop-rank l = lacking_from l.plan l.g l.n (value_of l.plan l.table) l.rank ≡ first_lacking (value_of l.plan l.table) (keys_of_pair l.plan l.g l.n)

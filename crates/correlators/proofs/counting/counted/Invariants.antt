@@ -1,0 +1,6 @@
+use Rattle.std.proofs.Common.{◌≡◌}
+use Rattle.airy_math.specs.Sums.{binomial}
+use Rattle.correlators.proofs.counting.counted.Given as goal
+
+abbrev pub invariant-loop-i : goal.invariant-loop-i
+invariant-loop-i l = l.lists ≡ binomial l.all l.i

@@ -1,0 +1,4 @@
+pub mod PlaceLemmas
+pub mod FirstIndex
+pub mod WittenLaw
+pub mod NorburyLaw
