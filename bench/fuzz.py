@@ -27,8 +27,12 @@ ODD_INDICES = b"00 000 01 007 -0 +0 -1 +1 0/1 1/1 a 0x0 \xc2\xb9 256 257 65536 4
               b"340282366920938463463374607431768211456 31 32 33 254 255 99999999999999999999999999999999999999999999".split()
 ODD_DIMS = b"0 00 1 01 2 02 3 31 32 032 00000000000000000000000000000002 33 34 64 72 100 255 256 257 258 288 65537 4294967297 " \
            b"18446744073709551617 -1 +1 +2 2/1 2.0 a \xc2\xb2".split()
+ODD_LAWS = b"0 00 000 1 01 -1 +1 -01 -0 +0 - + -- 3 -3 9 99 100 -99 -100 1/1 a all exact atmost letter Letter \xc2\xb2 #".split()
 ODD_LINES = [b"airy 1", b"airy 2", b"airy 1 1", b"airy", b"Airy 1", b"airy 01", b"airy1", b"airy 1#", b"\xef\xbb\xbfairy 1", b"dim 1", b"dim", b"dim 1 1", b"Dim 1", b"end", b"end end",
              b"END", b"ends", b"end.", b"en", b"end #", b"# end", b"#", b"##", b" # x", b"\t#", b"#\r", b"", b" ", b"\t", b"\r", b"\r\r", b" \r ", b"\0", b"a 0 0 0 1",
+             b"shape", b"shape all", b"shape all letter", b"Shape all", b"shape exact", b"shape exact 3", b"shape exact 3 1", b"shape exact 3 1 letter",
+             b"shape exact 3 1 1", b"shape atmost 3 1", b"shape atmost 3 1 letter", b"shape atmost 3 1 letters", b"shape atmost 3 letter", b"shape exact 0 0", b"shape exact +3 -01",
+             b"shape exact 100 1", b"shape atmost 3 001 letter", b"shape atmost -0 +0", b"shapes all", b"shape most 3 1",
              b"E 0 0 0 1", b"A", b"A 0", b"A 0 0 0", b"A 0 0 0 1 1", b"A 0 0 0 1 #", b"B 0 0 0 1 ", b"D", b"D 0", b"D 0 1 1", b"D 0 0 1", b"C 0 0 1", b"AA 0 0 0 1", b"A0 0 0 1",
              b"A 0 0 0 1\x0b", b"A\xa00 0 0 1", b"D\x000 1", b"D 0 1\r", b"D 0 \r1"]
 
@@ -106,9 +110,38 @@ def copies(rng):
     return [[b"airy", b"1"], [b"dim", str(dim).encode()], *lines, [b"end"]]
 
 
+LAWS = [(3, 1), (1, 0), (0, 0), (0, 1), (2, 1), (3, 2), (-1, 0), (1, 1), (-3, 2), (5, 1)]
+
+
+def shaped(rng, most):
+    """A text that states a shape; its entries keep the grading, mostly."""
+    dim = min(most, rng.choice([1, 2, 2, 3, 3, 4, 5]))
+    relation, (p, q) = rng.choice(["all", "exact", "exact", "atmost", "atmost"]), rng.choice(LAWS)
+    letter = relation == "atmost" and rng.random() < 0.6
+    shape = grammar.ALL if relation == "all" else (relation, p, q, letter)
+    line = [b"shape", relation.encode()]
+    if relation != "all":
+        line += [rng.choice([b"", b"+"] if z >= 0 else [b"-"]) + rng.choice([b"", b"0"]) + str(abs(z)).encode() for z in (p, q)]
+    lines = []
+    for name, size in ((b"A", 3), (b"B", 3), (b"C", 3), (b"D", 1)):
+        free = [place for place in product(range(dim), repeat=size)
+                if (name in b"BD" or place[1] <= place[2]) and (rng.random() < 0.002 or grammar.keeps(shape, name, place))]
+        some = rng.random()
+        same = {}
+        for place in free:
+            if rng.random() < some:
+                v = same.setdefault(tuple(sorted(place)), modest(rng)) if name == b"A" else modest(rng)
+                lines.append([name, *(str(index).encode() for index in place), v])
+    rng.shuffle(lines)
+    return [[b"airy", b"2"], [b"dim", str(dim).encode()], line + [b"letter"] * letter, *lines, [b"end"]]
+
+
 def whole(rng, most):
-    if rng.random() < 0.3:
+    way = rng.random()
+    if way < 0.3:
         return copies(rng)
+    if way < 0.6:
+        return shaped(rng, most)
     dim = min(most, rng.choice([1, 1, 2, 2, 2, 3, 3, 4, rng.randint(5, 8), rng.choice([2, 3, 5, 31, 32]) if rng.random() < 0.2 else 2]))
     return [[b"airy", b"1"], [b"dim", str(dim).encode()], *entries(rng, dim), [b"end"]]
 
@@ -124,6 +157,8 @@ def change_word(rng, lines):
         line[place] = rng.choice(ODD_DIMS)
     elif line[0] in (b"A", b"B", b"C", b"D") and place == len(line) - 1:
         line[place] = rng.choice([rng.choice(ODD_VALUES), value(rng), str(rng.choice(FAR)).encode()])
+    elif line[0] == b"shape" and place > 0:
+        line[place] = rng.choice(ODD_LAWS)
     elif place > 0:
         line[place] = rng.choice([rng.choice(ODD_INDICES), str(rng.randint(0, 9)).encode()])
     else:
@@ -275,14 +310,16 @@ def kind_of(status, told):
 
 
 def edits():
-    """A text of every kind of line, and all texts that differ from it by one byte."""
-    text = b"# all\nairy 1\ndim 2\nA 0 0 1 1\nA 1 0 0 +1\nB 1 0 1 -7/06\r\nC 0 1 1 3\nD 1 1/8\n\nend\n #"
-    yield text
-    for place in range(len(text)):
-        yield text[:place] + text[place + 1:]
-        yield from (text[:place] + bytes([byte]) + text[place + 1:] for byte in range(256))
-    for place in range(len(text) + 1):
-        yield from (text[:place] + bytes([byte]) + text[place:] for byte in range(256))
+    """Two texts with every kind of line, and all texts that differ from one of them by one byte."""
+    plain = b"# all\nairy 1\ndim 2\nA 0 0 1 1\nA 1 0 0 +1\nB 1 0 1 -7/06\r\nC 0 1 1 3\nD 1 1/8\n\nend\n #"
+    graded = b"airy 2\ndim 2\nshape atmost +3 01 letter\nA 0 0 0 1\nB 1 0 0 2\nB 0 1 1 -1/2\nC 0 1 1 3\nD 0 1/12\nend\n"
+    for text in (plain, graded):
+        yield text
+        for place in range(len(text)):
+            yield text[:place] + text[place + 1:]
+            yield from (text[:place] + bytes([byte]) + text[place + 1:] for byte in range(256))
+        for place in range(len(text) + 1):
+            yield from (text[:place] + bytes([byte]) + text[place:] for byte in range(256))
 
 
 def batches(count, seed, most):

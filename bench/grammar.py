@@ -1,6 +1,6 @@
-"""A second reader of the text `airy 1`, written from the grammar in words alone, and what `probe X` and `table - X` answer to a text.
+"""A second reader of the texts `airy 1` and `airy 2`, written from the grammar in words alone, and what `probe X` and `table - X` answer to a text.
 
-`read` gives the tensors of a text, or raises `Refused` with the line that the program prints. `answer` gives the status and the
+`read` gives the dim, the shape and the tensors of a text, or raises `Refused` with the line that the program prints. `answer` gives the status and the
 bytes of a command. It has no code in common with the program: whole numbers without a bound, tensors as dictionaries, and sums that
 go through all keys and all splits.
 """
@@ -58,8 +58,54 @@ def fraction(word):
     return lowest(-above if sign == b"-" else above, below)
 
 
+# ---- shapes: a relation, `all`, `exact` or `atmost`; the law's two numbers P and Q; and whether there is a letter
+
+ALL = ("all", 0, 0, False)
+
+
+def shape_of(words):
+    """The shape that a shape line says; None where it isn't one."""
+    match words:
+        case [b"shape", b"all"]:
+            return ALL
+        case [b"shape", b"exact", p, q]:
+            relation, letter = "exact", False
+        case [b"shape", b"atmost", p, q]:
+            relation, letter = "atmost", False
+        case [b"shape", b"atmost", p, q, b"letter"]:
+            relation, letter = "atmost", True
+        case _:
+            return None
+    if not all(re.fullmatch(rb"[+-]?[0-9]{1,2}", word) for word in (p, q)):
+        return None
+    return relation, int(p), int(q), letter
+
+
+def stands(shape, number, other):
+    """Whether a number stands to the other as the shape wants."""
+    return shape[0] == "all" or number == other or shape[0] == "atmost" and number < other
+
+
+def covers(shape, g, places):
+    return stands(shape, sum(places), law_number(shape, g, len(places)))
+
+
+def law_number(shape, g, n):
+    return shape[1] * (g - 1) + shape[2] * n
+
+
+def keeps(shape, name, place):
+    """Whether an entry keeps the grading of the shape."""
+    _, p, q, _ = shape
+    if name == b"D":
+        return stands(shape, place[0], q)
+    i, j, k = place
+    number, other = {b"A": (i + j + k, 3 * q - p), b"B": (i + j - k, q), b"C": (i - j - k, p - q)}[name]
+    return stands(shape, number, other)
+
+
 def read(text):
-    """The dim and the four dictionaries of the entries that aren't 0."""
+    """The dim, the shape and the four dictionaries of the entries that aren't 0."""
     if len(text) > LONGEST:
         raise Refused(3, "text too long")
     lines = lines_of(text)
@@ -70,16 +116,23 @@ def read(text):
         raise Refused(3, f"line {number} {kind}")
 
     number, words = significant[0] if significant else (behind, [])
-    if words != [b"airy", b"1"]:
+    if words not in ([b"airy", b"1"], [b"airy", b"2"]):
         refuse(number, "Header")
+    first, shape = 2, ALL
+    shaped = words[1] == b"2"
     number, words = significant[1] if len(significant) > 1 else (behind, [])
     dim = natural(words[1]) if len(words) == 2 and words[0] == b"dim" else None
     if dim is None or not 1 <= dim <= 32:
         refuse(number, "Dim")
+    if shaped:
+        number, words = significant[2] if len(significant) > 2 else (behind, [])
+        first, shape = 3, shape_of(words)
+        if shape is None:
+            refuse(number, "Shape")
     tensors = {b"A": {}, b"B": {}, b"C": {}, b"D": {}}
     counts = {b"A": 5, b"B": 5, b"C": 5, b"D": 3, b"end": 1}
     ended = False
-    for number, words in significant[2:]:
+    for number, words in significant[first:]:
         if ended:
             refuse(number, "After")
         if words[0] not in counts:
@@ -97,6 +150,8 @@ def read(text):
             refuse(number, "Number")
         if value[0] == 0:
             continue
+        if not keeps(shape, words[0], place):
+            refuse(number, "Grade")
         if words[0] in (b"A", b"C"):
             place = place[:1] + sorted(place[1:])
         entries = tensors[words[0]]
@@ -105,7 +160,7 @@ def read(text):
         entries[tuple(place)] = value
     if not ended:
         refuse(behind, "NoEnd")
-    return dim, tensors
+    return dim, shape, tensors
 
 
 # ---- sums and products of 128 bits
@@ -203,19 +258,28 @@ def check_relations(dim, tensors):
 
 # ---- the table
 
-def keys_up_to(dim, bound):
+def keys_of(dim, level):
+    """The keys of a level in order, of every shape."""
+    for g in range(level // 2 + 2):
+        if level + 2 - 2 * g >= 1:
+            for places in combinations_with_replacement(range(dim), level + 2 - 2 * g):
+                yield g, places
+
+
+def keys_up_to(dim, shape, bound):
     """The planned keys in order."""
-    total = 0
+    keys = []
     for level in range(1, bound + 1):
-        pairs = [(g, level + 2 - 2 * g) for g in range(level // 2 + 2) if level + 2 - 2 * g >= 1]
-        total += sum(comb(dim + n - 1, n) for _, n in pairs)
-        if total > MOST_KEYS:
-            raise Refused(5, f"cells at level {level}")
-    for level in range(1, bound + 1):
-        for g in range(level // 2 + 2):
-            if level + 2 - 2 * g >= 1:
-                for places in combinations_with_replacement(range(dim), level + 2 - 2 * g):
-                    yield g, places
+        if shape == ALL:
+            ns = [level + 2 - 2 * g for g in range(level // 2 + 2) if level + 2 - 2 * g >= 1]
+            if len(keys) + sum(comb(dim + n - 1, n) for n in ns) > MOST_KEYS:
+                raise Refused(5, f"cells at level {level}")
+        for g, places in keys_of(dim, level):
+            if covers(shape, g, places):
+                keys.append((g, places))
+            if len(keys) > MOST_KEYS:
+                raise Refused(5, f"cells at level {level}")
+    return keys
 
 
 def less(places, *gone):
@@ -240,12 +304,9 @@ def splits(places):
         yield part, less(places, *part), weight
 
 
-def stable(g, n):
-    return n >= 1 and 2 * g - 2 + n > 0
-
-
 def pivot_sum(rows, values, g, places, pivot):
-    """The sum over the terms of a key with this pivot, step by step from 0; raises Over."""
+    """The sum over the terms of a key with this pivot, step by step from 0; raises Over. A key that isn't stable or that the shape doesn't cover has no
+    value, and no term."""
     rest = less(places, pivot)
     if (g, len(places)) == (0, 3):
         return rows["A"].get((pivot, *rest), (0, 1))
@@ -254,18 +315,20 @@ def pivot_sum(rows, values, g, places, pivot):
     total = (0, 1)
     for j in sorted(set(rest)):
         for a, v in rows["B"].get((pivot, j), []):
-            if stable(g, len(rest)):
-                total = plus(total, times(times((rest.count(j), 1), v), values[key(g, a, *less(rest, j))]))
+            found = values.get(key(g, a, *less(rest, j)))
+            if found:
+                total = plus(total, times(times((rest.count(j), 1), v), found))
     for a, b, v in rows["C"].get(pivot, []):
         weight = None
-        if g >= 1:
+        joined = values.get(key(g - 1, a, b, *rest)) if g >= 1 else None
+        if joined:
             weight = v if a < b else times(v, (1, 2))
-            total = plus(total, times(weight, values[key(g - 1, a, b, *rest)]))
+            total = plus(total, times(weight, joined))
         for k in range(g + 1):
             for part, others, ways in splits(rest):
-                if stable(k, len(part) + 1) and stable(g - k, len(others) + 1):
+                left, right = values.get(key(k, a, *part)), values.get(key(g - k, b, *others))
+                if left and right:
                     weight = weight or (v if a < b else times(v, (1, 2)))
-                    left, right = values[key(k, a, *part)], values[key(g - k, b, *others)]
                     total = plus(total, times(times(times(weight, (ways, 1)), left), right))
     return total
 
@@ -284,11 +347,11 @@ def named(g, places):
     return f"{g},{len(places)} [{' '.join(map(str, places))}]"
 
 
-def table_of(dim, tensors, bound):
+def table_of(dim, shape, tensors, bound):
     """The value of each planned key, where every pivot gives it; else the first refusal."""
     rows = rows_of(tensors)
     values = {}
-    for g, places in keys_up_to(dim, bound):
+    for g, places in keys_up_to(dim, shape, bound):
         try:
             values[g, places] = pivot_sum(rows, values, g, places, places[0])
         except Over:
@@ -304,13 +367,19 @@ def table_of(dim, tensors, bound):
     return values
 
 
+def power(shape, g, places):
+    """The letter's power at a key, behind a space."""
+    exponent = law_number(shape, g, len(places)) - sum(places) if shape[3] else 0
+    return "" if exponent == 0 else " p" if exponent == 1 else f" p^{exponent}"
+
+
 def answer(text, command, bound):
     """The status and the bytes of `probe BOUND` or `table - BOUND` with this text."""
     try:
-        dim, tensors = read(text)
+        dim, shape, tensors = read(text)
         if command == "table":
             check_relations(dim, tensors)
-        values = table_of(dim, tensors, bound)
+        values = table_of(dim, shape, tensors, bound)
     except Refused as refused:
         return refused.status, f"refused: {refused.line}\n".encode()
-    return 0, "".join(f"{named(g, places)} {shown(value)}\n" for (g, places), value in values.items()).encode()
+    return 0, "".join(f"{named(g, places)} {shown(value)}{power(shape, g, places)}\n" for (g, places), value in values.items()).encode()

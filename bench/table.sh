@@ -1,6 +1,7 @@
 #!/bin/bash
-# Builds the proved plans, tables and checks of every pivot and the same in plain Rust, runs the two programs in turns, and
-# prints the best time of each part of a job, in milliseconds, and their ratio. The first argument is the number of turns, the
+# Builds the proved plans, tables and checks of every pivot and the same in plain Rust, runs the two programs in turns, the plain one with
+# sums in lowest terms at each step and with sums reduced once, and prints the best time of each part of a job, in milliseconds, and the
+# ratios of the proved one to both. The first argument is the number of turns, the
 # others are jobs: a structure and a bound, as wk-12; dense-6 is a plan alone.
 set -euo pipefail
 turns=${1:-5}
@@ -24,6 +25,7 @@ for _ in $(seq "$turns"); do
     for job in "$@"; do
         "$work/crates/table_bench/out/table_bench" "${job%-*}" "${job#*-}" | sed "s/^/$job proved /"
         "$work/plain" "${job%-*}" "${job#*-}" | sed "s/^/$job plain /"
+        "$work/plain" once "${job%-*}" "${job#*-}" | sed "s/^/$job once /"
     done
 done > "$work/lines.txt"
 
@@ -37,29 +39,35 @@ awk '
     }
     name ~ /^count-/ { next }
     { told[side " " job " " name] = $0; lines[job " " name] = 1 }
-    function row(job, part, proved, plain) {
-        printf "%-10s %-12s %12.3f %12.3f %7.2f\n", job, part, proved / 1e6, plain / 1e6, proved / plain
+    function time(side, job, part) {
+        if (part == "fill+check") return best[side " " job " fill"] + best[side " " job " check"]
+        return best[side " " job " " part]
+    }
+    function row(job, part,    proved, plain, once) {
+        proved = time("proved", job, part)
+        plain = time("plain", job, part)
+        once = time("once", job, part)
+        printf "%-10s %-12s %12.3f %12.3f %7.2f %12.3f %7.2f\n", job, part, proved / 1e6, plain / 1e6, proved / plain, once / 1e6, proved / once
     }
     END {
         for (line in lines) {
             proved = told["proved " line]
             plain = told["plain " line]
-            if (proved != plain) {
-                print "the two programs differ at " line ": " proved " and " plain
+            once = told["once " line]
+            if (proved != plain || proved != once) {
+                print "the programs differ at " line ": " proved ", " plain " and " once
                 bad = 1
             }
         }
         if (bad) exit 1
-        printf "%-10s %-12s %12s %12s %7s\n", "job", "part", "proved ms", "plain ms", "ratio"
+        printf "%-10s %-12s %12s %12s %7s %12s %7s\n", "job", "part", "proved ms", "by steps ms", "ratio", "once ms", "ratio"
         for (i = 1; i <= jobs; i++) {
             job = order[i]
-            row(job, "plan", best["proved " job " plan"], best["plain " job " plan"])
+            row(job, "plan")
             if (!("plain " job " fill" in best)) continue
-            row(job, "fill", best["proved " job " fill"], best["plain " job " fill"])
-            row(job, "check", best["proved " job " check"], best["plain " job " check"])
-            proved = best["proved " job " fill"] + best["proved " job " check"]
-            plain = best["plain " job " fill"] + best["plain " job " check"]
-            row(job, "fill+check", proved, plain)
+            row(job, "fill")
+            row(job, "check")
+            row(job, "fill+check")
         }
     }
 ' "$work/lines.txt"

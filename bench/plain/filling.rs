@@ -1,7 +1,10 @@
 //! The outcomes of a plan, and the check of every pivot.
 use crate::fraction::Frac;
-use crate::plan::{Key, Plan, Visitor};
+use crate::keys::Key;
+use crate::plan::Plan;
+use crate::splits::Splits;
 use crate::sums::Sum;
+use crate::walk::Visitor;
 
 // ---- outcomes
 
@@ -14,19 +17,20 @@ pub enum Outcome {
 }
 
 /// The sum of the terms so far over outcomes of lower ranks, and the least rank so far without a value.
-struct PivotSum<'a, S> {
+struct PivotSum<'a, S: Sum> {
     outcomes: &'a [Outcome],
     blocked: Option<u32>,
+    weight: Option<S::Number>,
     sum: S,
 }
 
-impl<S> PivotSum<'_, S> {
-    fn number(&mut self, rank: u32) -> Frac {
+impl<S: Sum> PivotSum<'_, S> {
+    fn number(&mut self, rank: u32) -> S::Number {
         match self.outcomes[rank as usize] {
-            Outcome::Value(value) => value,
+            Outcome::Value(value) => S::number(value),
             _ => {
                 self.blocked = Some(self.blocked.map_or(rank, |least| least.min(rank)));
-                Frac::whole(0)
+                S::number(Frac::whole(0))
             }
         }
     }
@@ -42,14 +46,18 @@ impl<S: Sum> Visitor for PivotSum<'_, S> {
         self.sum.add_once(times, v, value);
     }
 
-    fn joined(&mut self, weight: Option<Frac>, rank: u32) {
-        let value = self.number(rank);
-        self.sum.add_joined(weight, value);
+    fn weight(&mut self, w: Option<Frac>) {
+        self.weight = w.map(S::number);
     }
 
-    fn twice(&mut self, weight: Option<Frac>, ways: u64, left: u32, right: u32) {
+    fn joined(&mut self, rank: u32) {
+        let value = self.number(rank);
+        self.sum.add_joined(self.weight, value);
+    }
+
+    fn twice(&mut self, ways: u32, left: u32, right: u32) {
         let (left, right) = (self.number(left), self.number(right));
-        self.sum.add_twice(weight, ways, left, right);
+        self.sum.add_twice(self.weight, ways, left, right);
     }
 }
 
@@ -57,13 +65,15 @@ impl<S: Sum> Visitor for PivotSum<'_, S> {
 #[inline(never)]
 pub fn filled<S: Sum>(plan: &Plan) -> Vec<Outcome> {
     let mut outcomes = Vec::with_capacity(plan.keys.len());
+    let mut splits = Splits::none();
     for key in &plan.keys {
         let mut sum = PivotSum {
             outcomes: &outcomes,
             blocked: None,
+            weight: None,
             sum: S::zero(),
         };
-        plan.walk(key, key.list()[0], &mut sum);
+        plan.walk(key, key.list()[0], &mut splits, &mut sum);
         outcomes.push(match (sum.blocked, sum.sum.value()) {
             (Some(first), _) => Outcome::Blocked(first),
             (None, Some(value)) => Outcome::Value(value),
@@ -76,8 +86,9 @@ pub fn filled<S: Sum>(plan: &Plan) -> Vec<Outcome> {
 // ---- the check of every pivot
 
 /// The sum of the terms so far over values of all ranks.
-struct ValueSum<'a, S> {
-    values: &'a [Frac],
+struct ValueSum<'a, S: Sum> {
+    values: &'a [S::Number],
+    weight: Option<S::Number>,
     sum: S,
 }
 
@@ -90,13 +101,17 @@ impl<S: Sum> Visitor for ValueSum<'_, S> {
         self.sum.add_once(times, v, self.values[rank as usize]);
     }
 
-    fn joined(&mut self, weight: Option<Frac>, rank: u32) {
-        self.sum.add_joined(weight, self.values[rank as usize]);
+    fn weight(&mut self, w: Option<Frac>) {
+        self.weight = w.map(S::number);
     }
 
-    fn twice(&mut self, weight: Option<Frac>, ways: u64, left: u32, right: u32) {
+    fn joined(&mut self, rank: u32) {
+        self.sum.add_joined(self.weight, self.values[rank as usize]);
+    }
+
+    fn twice(&mut self, ways: u32, left: u32, right: u32) {
         let (left, right) = (self.values[left as usize], self.values[right as usize]);
-        self.sum.add_twice(weight, ways, left, right);
+        self.sum.add_twice(self.weight, ways, left, right);
     }
 }
 
@@ -124,13 +139,16 @@ pub fn check<S: Sum>(plan: &Plan, outcomes: &[Outcome]) -> End {
         Ok(values) => values,
         Err(rank) => return End::NotValue(plan.keys[rank]),
     };
+    let numbers: Vec<S::Number> = values.iter().map(|value| S::number(*value)).collect();
+    let mut splits = Splits::none();
     for (rank, key) in plan.keys.iter().enumerate() {
         for pair in key.list().windows(2).filter(|pair| pair[0] != pair[1]) {
             let mut sum = ValueSum {
-                values: &values,
+                values: &numbers,
+                weight: None,
                 sum: S::zero(),
             };
-            plan.walk(key, pair[1], &mut sum);
+            plan.walk(key, pair[1], &mut splits, &mut sum);
             match sum.sum.value() {
                 None => return End::Over(*key, pair[1]),
                 Some(sum) if sum == values[rank] => {}

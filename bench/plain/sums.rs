@@ -1,17 +1,26 @@
-//! Sums of terms, in lowest terms at each step, or reduced once at the end as those of the crate running_sum. What is in range is the same.
+//! Sums of terms, and those in lowest terms at each step.
 use crate::fraction::Frac;
 
 /// What is in range of a sum so far.
 pub trait Sum {
+    /// A number as these sums read it.
+    type Number: Copy;
+    fn number(v: Frac) -> Self::Number;
     fn zero() -> Self;
     /// Adds v.
     fn add_alone(&mut self, v: Frac);
     /// Adds (m v) x.
-    fn add_once(&mut self, times: u8, v: Frac, x: Frac);
+    fn add_once(&mut self, times: u8, v: Frac, x: Self::Number);
     /// Adds w x.
-    fn add_joined(&mut self, weight: Option<Frac>, x: Frac);
+    fn add_joined(&mut self, weight: Option<Self::Number>, x: Self::Number);
     /// Adds ((w q) x) y.
-    fn add_twice(&mut self, weight: Option<Frac>, ways: u64, x: Frac, y: Frac);
+    fn add_twice(
+        &mut self,
+        weight: Option<Self::Number>,
+        ways: u32,
+        x: Self::Number,
+        y: Self::Number,
+    );
     fn value(&self) -> Option<Frac>;
 }
 
@@ -30,11 +39,17 @@ fn once_term(times: u8, v: Frac, x: Frac) -> Option<Frac> {
     Frac::whole(times as i64).mul(v)?.mul(x)
 }
 
-fn twice_term(weight: Option<Frac>, ways: u64, x: Frac, y: Frac) -> Option<Frac> {
+fn twice_term(weight: Option<Frac>, ways: u32, x: Frac, y: Frac) -> Option<Frac> {
     weight?.mul(Frac::whole(ways as i64))?.mul(x)?.mul(y)
 }
 
 impl Sum for Steps {
+    type Number = Frac;
+
+    fn number(v: Frac) -> Frac {
+        v
+    }
+
     fn zero() -> Steps {
         Steps(Some(Frac::whole(0)))
     }
@@ -51,331 +66,11 @@ impl Sum for Steps {
         self.add(weight.and_then(|weight| weight.mul(x)));
     }
 
-    fn add_twice(&mut self, weight: Option<Frac>, ways: u64, x: Frac, y: Frac) {
+    fn add_twice(&mut self, weight: Option<Frac>, ways: u32, x: Frac, y: Frac) {
         self.add(twice_term(weight, ways, x, y));
     }
 
     fn value(&self) -> Option<Frac> {
         self.0
-    }
-}
-
-// ---- sizes
-
-fn bits(n: u128) -> u32 {
-    128 - n.leading_zeros()
-}
-
-fn word(n: i128) -> Option<i64> {
-    if n.unsigned_abs() >> 63 == 0 {
-        Some(n as i64)
-    } else {
-        None
-    }
-}
-
-fn short_product(a: i128, b: i128) -> Option<i128> {
-    if bits(a.unsigned_abs()) + bits(b.unsigned_abs()) > 127 {
-        return None;
-    }
-    Some(a * b)
-}
-
-/// The number k 2^twos times as great, where the lengths say that it is in range.
-fn raised(a: i128, k: u128, twos: u32) -> Option<i128> {
-    if bits(a.unsigned_abs()) + bits(k) + twos > 127 {
-        return None;
-    }
-    Some(a * (k << twos) as i128)
-}
-
-fn short_sum(a: i128, b: i128) -> Option<i128> {
-    let sum = a.checked_add(b)?;
-    if sum == i128::MIN { None } else { Some(sum) }
-}
-
-/// The quotient, where the second number divides the first.
-fn quotient(a: u128, b: u128) -> Option<u128> {
-    if a >> 64 == 0 && b >> 64 == 0 {
-        let (a, b) = (a as u64, b as u64);
-        if a % b == 0 {
-            Some((a / b) as u128)
-        } else {
-            None
-        }
-    } else {
-        let quotient = a / b;
-        if quotient * b == a {
-            Some(quotient)
-        } else {
-            None
-        }
-    }
-}
-
-/// What makes each of two numbers a multiple of both.
-fn common(a: u128, b: u128) -> Option<(u128, u128)> {
-    if a == b {
-        return Some((1, 1));
-    }
-    if let Some(k) = quotient(a, b) {
-        return Some((1, k));
-    }
-    let (num, den) = Frac::new(a as i128, b as i128).ok()?.parts();
-    Some((den.unsigned_abs(), num.unsigned_abs()))
-}
-
-// ---- words
-
-/// A fraction of words: `num` over `odd` 2^`twos`.
-struct Word {
-    num: i64,
-    odd: u64,
-    twos: u32,
-}
-
-impl Word {
-    #[inline(always)]
-    fn of(v: Frac) -> Option<Word> {
-        let (num, den) = v.parts();
-        let den = den as u128;
-        let twos = den.trailing_zeros();
-        let odd = den >> twos;
-        if odd >> 64 != 0 || twos > 63 {
-            return None;
-        }
-        Some(Word {
-            num: word(num)?,
-            odd: odd as u64,
-            twos,
-        })
-    }
-
-    fn whole(n: u64) -> Word {
-        Word {
-            num: n as i64,
-            odd: 1,
-            twos: 0,
-        }
-    }
-
-    #[inline(always)]
-    fn times(&self, o: &Word) -> Option<Word> {
-        let twos = self.twos + o.twos;
-        if twos > 63 {
-            return None;
-        }
-        Some(Word {
-            num: self.num.checked_mul(o.num)?,
-            odd: self.odd.checked_mul(o.odd)?,
-            twos,
-        })
-    }
-
-    #[inline(always)]
-    fn product(&self, o: &Word) -> Option<Unreduced> {
-        let odd = self.odd as u128 * o.odd as u128;
-        let twos = self.twos + o.twos;
-        if bits(odd) + twos > 127 {
-            return None;
-        }
-        Some(Unreduced {
-            num: self.num as i128 * o.num as i128,
-            odd,
-            twos,
-        })
-    }
-}
-
-#[inline(always)]
-fn word_once(times: u8, v: Frac, x: Frac) -> Option<Unreduced> {
-    let weight = Word::whole(u64::from(times)).times(&Word::of(v)?)?;
-    weight.product(&Word::of(x)?)
-}
-
-#[inline(always)]
-fn word_joined(weight: Option<Frac>, x: Frac) -> Option<Unreduced> {
-    Word::of(weight?)?.product(&Word::of(x)?)
-}
-
-#[inline(always)]
-fn word_twice(weight: Option<Frac>, ways: u64, x: Frac, y: Frac) -> Option<Unreduced> {
-    let weight = Word::of(weight?)?.times(&Word::whole(ways))?;
-    weight.times(&Word::of(x)?)?.product(&Word::of(y)?)
-}
-
-// ---- reduced once
-
-/// A fraction that need not be in lowest terms, `num` over `odd` 2^`twos`; with `odd` 0 nothing.
-pub struct Unreduced {
-    num: i128,
-    odd: u128,
-    twos: u32,
-}
-
-impl Unreduced {
-    #[inline(always)]
-    fn of(v: Frac) -> Unreduced {
-        let (num, den) = v.parts();
-        let den = den as u128;
-        let twos = den.trailing_zeros();
-        Unreduced {
-            num,
-            odd: den >> twos,
-            twos,
-        }
-    }
-
-    #[inline(always)]
-    fn from(v: Option<Frac>) -> Unreduced {
-        match v {
-            Some(v) => Unreduced::of(v),
-            None => Unreduced {
-                num: 0,
-                odd: 0,
-                twos: 0,
-            },
-        }
-    }
-
-    #[inline(always)]
-    fn moved(&self) -> Unreduced {
-        Unreduced {
-            num: self.num,
-            odd: self.odd,
-            twos: self.twos,
-        }
-    }
-
-    #[inline(always)]
-    fn add(&mut self, o: &Unreduced) {
-        if self.odd == o.odd && o.twos <= self.twos {
-            if let Some(part) = raised(o.num, 1, self.twos - o.twos) {
-                if let Some(num) = short_sum(self.num, part) {
-                    self.num = num;
-                    return;
-                }
-            }
-        }
-        *self = long_sum(self, &o.moved());
-    }
-}
-
-/// The product without a reduction, where the sizes say that it is in range.
-fn certified_product(a: &Unreduced, b: &Unreduced) -> Option<Unreduced> {
-    let num = short_product(a.num, b.num)?;
-    let twos = a.twos + b.twos;
-    if bits(a.odd) + bits(b.odd) + twos > 126 {
-        return None;
-    }
-    Some(Unreduced {
-        num,
-        odd: a.odd * b.odd,
-        twos,
-    })
-}
-
-#[inline(never)]
-fn long_product(a: &Unreduced, b: &Unreduced) -> Unreduced {
-    if let Some(product) = certified_product(a, b) {
-        return product;
-    }
-    let product = a.value().and_then(|x| x.mul(b.value()?));
-    Unreduced::from(product)
-}
-
-/// The sum over a common denominator, where the sizes say that all is in range.
-fn certified_sum(a: &Unreduced, b: &Unreduced) -> Option<Unreduced> {
-    if a.odd == 0 || b.odd == 0 {
-        return None;
-    }
-    let (f, g) = common(a.odd, b.odd)?;
-    let twos = a.twos.max(b.twos);
-    if bits(a.odd) + bits(f) + twos > 127 {
-        return None;
-    }
-    let x = raised(a.num, f, twos - a.twos)?;
-    let y = raised(b.num, g, twos - b.twos)?;
-    Some(Unreduced {
-        num: short_sum(x, y)?,
-        odd: a.odd * f,
-        twos,
-    })
-}
-
-#[inline(never)]
-fn long_sum(a: &Unreduced, b: &Unreduced) -> Unreduced {
-    if let Some(sum) = certified_sum(a, b) {
-        return sum;
-    }
-    let sum = a.value().and_then(|x| x.add(b.value()?));
-    Unreduced::from(sum)
-}
-
-#[inline(never)]
-fn long_once(times: u8, v: Frac, x: Frac) -> Unreduced {
-    let weight = long_product(
-        &Unreduced::of(Frac::whole(i64::from(times))),
-        &Unreduced::of(v),
-    );
-    long_product(&weight, &Unreduced::of(x))
-}
-
-#[inline(never)]
-fn long_joined(weight: Option<Frac>, x: Frac) -> Unreduced {
-    long_product(&Unreduced::from(weight), &Unreduced::of(x))
-}
-
-#[inline(never)]
-fn long_twice(weight: Option<Frac>, ways: u64, x: Frac, y: Frac) -> Unreduced {
-    let ways = Unreduced::of(Frac::whole(ways as i64));
-    let first = long_product(
-        &long_product(&Unreduced::from(weight), &ways),
-        &Unreduced::of(x),
-    );
-    long_product(&first, &Unreduced::of(y))
-}
-
-impl Sum for Unreduced {
-    fn zero() -> Unreduced {
-        Unreduced::of(Frac::whole(0))
-    }
-
-    fn add_alone(&mut self, v: Frac) {
-        self.add(&Unreduced::of(v));
-    }
-
-    #[inline(always)]
-    fn add_once(&mut self, times: u8, v: Frac, x: Frac) {
-        match word_once(times, v, x) {
-            Some(term) => self.add(&term),
-            None => self.add(&long_once(times, v, x)),
-        }
-    }
-
-    #[inline(always)]
-    fn add_joined(&mut self, weight: Option<Frac>, x: Frac) {
-        match word_joined(weight, x) {
-            Some(term) => self.add(&term),
-            None => self.add(&long_joined(weight, x)),
-        }
-    }
-
-    #[inline(always)]
-    fn add_twice(&mut self, weight: Option<Frac>, ways: u64, x: Frac, y: Frac) {
-        match word_twice(weight, ways, x, y) {
-            Some(term) => self.add(&term),
-            None => self.add(&long_twice(weight, ways, x, y)),
-        }
-    }
-
-    fn value(&self) -> Option<Frac> {
-        if self.odd == 0 {
-            return None;
-        }
-        if self.odd == 1 {
-            return Some(Frac::over_twos(self.num, self.twos));
-        }
-        Frac::new(self.num, (self.odd << self.twos) as i128).ok()
     }
 }

@@ -4,18 +4,26 @@
 mod commands;
 mod filling;
 mod fraction;
+mod keys;
 mod plan;
+mod ranks;
 mod relations;
+mod splits;
 mod sums;
 mod tensors;
+mod unreduced;
 mod volume;
+mod walk;
 
 use filling::{End, Outcome, check, filled};
 use fraction::Frac;
-use plan::{Plan, Refusal, Visitor};
+use plan::{Plan, Refusal};
+use splits::Splits;
 use std::time::Instant;
-use sums::{Steps, Sum, Unreduced};
+use sums::{Steps, Sum};
 use tensors::Tensors;
+use unreduced::Unreduced;
+use walk::Visitor;
 
 // ---- counts
 
@@ -34,11 +42,13 @@ impl Visitor for Counts {
         self.once += 1;
     }
 
-    fn joined(&mut self, _: Option<Frac>, _: u32) {
+    fn weight(&mut self, _: Option<Frac>) {}
+
+    fn joined(&mut self, _: u32) {
         self.joined += 1;
     }
 
-    fn twice(&mut self, _: Option<Frac>, _: u64, _: u32, _: u32) {
+    fn twice(&mut self, _: u32, _: u32, _: u32) {
         self.twice += 1;
     }
 }
@@ -46,11 +56,12 @@ impl Visitor for Counts {
 /// The terms of all keys at their least index, or at each distinct index above it.
 fn counted(plan: &Plan, least: bool) -> Counts {
     let mut counts = Counts::default();
+    let mut splits = Splits::none();
     for key in &plan.keys {
         let list = key.list();
         for at in 0..list.len() {
             if least && at == 0 || !least && at > 0 && list[at] != list[at - 1] {
-                plan.walk(key, list[at], &mut counts);
+                plan.walk(key, list[at], &mut splits, &mut counts);
             }
         }
     }

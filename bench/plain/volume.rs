@@ -1,6 +1,7 @@
 //! Weil-Petersson volumes from a table of amplitudes.
 use crate::fraction::Frac;
-use crate::plan::{Key, Plan};
+use crate::keys::Key;
+use crate::plan::Plan;
 use std::fs::File;
 use std::io::{self, Write};
 

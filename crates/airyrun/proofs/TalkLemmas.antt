@@ -24,13 +24,12 @@ use Rattle.named_families.specs.declared.petersson.MakeErr.TheVariants as make
 use Rattle.ask_seats.specs.Sessions.{Admitted}
 use Rattle.airy_math.specs.Jobs.{Text, Lettered}
 use Rattle.airy_math.specs.Tensors.{Tensors, SameEntries}
-use Rattle.airy_math.specs.Relations.{Close}
 use Rattle.airy_relations.specs.declared.verdict.Verdict.{Verdict}
 use Rattle.airy_relations.specs.declared.verdict.Verdict.TheVariants.{Closed, Differs, Over}
 use Rattle.airy_relations.specs.Verdicts.{verdict}
 use Rattle.std.specs.Prelude.{cond}
 use Rattle.airyrun.specs.Relations.{relations_report, of_relations, closed}
-use Rattle.airyrun.specs.Run.{LeadsToClosedSession}
+use Rattle.airyrun.specs.Run.{AreClosed, LeadsToClosedSession}
 use Rattle.airyrun.specs.Ends.{EndsBy}
 use Rattle.airyrun.specs.Tables.{plan_report, cause_report, is_bound, has_letter, making_over, making_report, making_error, text_structure, ArePlanned}
 use Rattle.airyrun.specs.Sessions.{EndsReplies, answered, stored_session, session_of, session_report, LeadsToSession}
@@ -146,7 +145,7 @@ text-made t X = by t.letter
 
 module _ (t : Entries) (X crew : ℕ) (lines : List Line) (before now : Taking) (result : ℕ) (own : OwnTensorsLaw) where
   -- the session, where the relations hold
-  pub closed-leads : EndsBy (LeadsToSession (text_structure t) X crew lines (session_report (text_structure t) X)) before now result → Closed ≡ verdict (looked_up t) t.dim → Close (looked_up t) t.dim
+  pub closed-leads : EndsBy (LeadsToSession (text_structure t) X crew lines (session_report (text_structure t) X)) before now result → Closed ≡ verdict (looked_up t) t.dim → AreClosed t
       → EndsBy (LeadsToClosedSession X crew lines t) before now result
   unfolding relations_report of_relations
   closed-leads e found close = (

@@ -1,11 +1,13 @@
 -- What a job with a text leads to, from what the reader says and what its tensors lead to.
-use Rattle.std.proofs.Common.{◌≡◌, ◌≢◌, ◌⊎◌, inl, inr, ℕ, refl, sym, ap, subst, true, false, arith}
+use Rattle.std.proofs.Common.{◌≡◌, ◌≢◌, ◌⊎◌, inl, inr, ℕ, ◌≤◌, refl, sym, ap, subst, true, false, arith}
 use Rattle.std.specs.Prelude.{Bool, Ok, Err, cond, IsTrue, ◌↔◌}
 use Rattle.airy_math.specs.Jobs.{Structure, Text, Lettered, IsSound, IsSolutionOf, planned_tensors, tensors_at}
 use Rattle.airy_math.specs.OwnTensors.{OwnTensorsLaw}
+use Rattle.airy_math.specs.Rational.{ℚ}
 use Rattle.airy_math.specs.RationalLaws.{1ℚ}
 use Rattle.airy_math.specs.Solutions.{Solves}
 use Rattle.airy_math.specs.Relations.{Close}
+use Rattle.airy_math.specs.Tensors.{IsGraded}
 use Rattle.sparse_tensor.specs.Entries.{Entries, looked_up}
 use Rattle.sparse_tensor.specs.Grades.{AreSound}
 use Rattle.tensor_text.specs.Answers.{Reads, HasReadCause}
@@ -19,7 +21,8 @@ use Rattle.airyrun.specs.Report.{Report, Ends, EndsOrWants, out_of_memory}
 use Rattle.airyrun.specs.Texts.{text_report}
 use Rattle.airyrun.specs.Relations.{relations_report, of_relations, closed}
 use Rattle.airyrun.specs.Tables.{is_bound, table_report, stored_report, text_structure}
-use Rattle.airyrun.specs.Run.{failed, wanting, long, refused, read, within, IsOwn, LeadsToTable, LeadsToProbe, LeadsToClosedTable}
+use Rattle.series_law.specs.Letters.{WidenedRelationsLaw}
+use Rattle.airyrun.specs.Run.{failed, wanting, long, refused, read, within, AreClosed, IsOwn, LeadsToTable, LeadsToProbe, LeadsToClosedTable}
 use Rattle.airyrun.specs.Ends.{EndsBy, EndsOfText, EndsWithBound}
 use Rattle.airyrun.proofs.ReportLemmas.{text_stored}
 use Rattle.airyrun.proofs.HeadlineLemmas.{JobLaws, headline_of, unsolvable_of}
@@ -60,6 +63,15 @@ own_of own X t f = by t.letter
       λ h. let g = (own (looked_up t) X 1ℚ f).1 h in record { wide = g.wide; solves = g.solves },
     )
 
+-- the relations of the entries are those of the job's tensors, at every dim and with every fraction
+pub are_closed : WidenedRelationsLaw → (t : Entries) → IsGraded (looked_up t) → Close (looked_up t) t.dim → AreClosed t
+unfolding text_structure tensors_at looked_up
+are_closed law t graded close = record { own = close; everywhere = by t.letter }
+  where
+    by : (b : Bool) (m : ℕ) (v : ℚ) → t.dim ≤ m → Close (tensors_at (cond b (Lettered (looked_up t)) (Text (looked_up t))) m v) m
+    by true m v wide = law (looked_up t) graded close m v wide
+    by false m v wide = law (looked_up t) graded close m 1ℚ wide
+
 -- the laws on the table of a text
 pub record TextLaws : Type 0 where
   pub jobs : JobLaws
@@ -87,7 +99,7 @@ module _ (t : Entries) (X : ℕ) (w w' : Taking) (status : ℕ) where
       (out_of_memory, record { table = other_leads next out_of_memory (inr (bounded, refl)) (λ h. omega arith) (λ h. omega arith); own = own_of laws.own X t }, e)
 
   -- its table, where the relations hold
-  pub closed_ends : TextLaws → AreSound t → is_bound X ≡ true → Closed ≡ verdict (looked_up t) t.dim → Close (looked_up t) t.dim
+  pub closed_ends : TextLaws → AreSound t → is_bound X ≡ true → Closed ≡ verdict (looked_up t) t.dim → AreClosed t
       → EndsOrWants (stored_report t X) w w' status → EndsBy (LeadsToClosedTable X t) w w' status
   unfolding relations_report of_relations
   closed_ends laws sound bounded found close (inl e) =

@@ -1,7 +1,7 @@
 -- What is written of a text that is refused, and of a source that fails.
 use Rattle.std.specs.Prelude.{ℕ, List, [], ◌++◌, codes, decimal}
 use Rattle.tensor_text.specs.declared.refusals.LineKind.{LineKind}
-use Rattle.tensor_text.specs.declared.refusals.LineKind.TheVariants.{Header, Dim, Word, Count, Index, Number, Twice, NoEnd, After}
+use Rattle.tensor_text.specs.declared.refusals.LineKind.TheVariants.{Header, Dim, Shape, Word, Count, Index, Number, Grade, Twice, NoEnd, After}
 use Rattle.tensor_text.specs.declared.refusals.TextErr.{TextErr}
 use Rattle.tensor_text.specs.declared.refusals.TextErr.TheVariants as texts
 use Rattle.airyrun.specs.Report.{Report, refusal, out_of_memory}
@@ -10,10 +10,12 @@ use Rattle.airyrun.specs.Report.{Report, refusal, out_of_memory}
 unfoldable pub kind_text : LineKind → List ℕ
 kind_text Header = codes "Header"
 kind_text Dim = codes "Dim"
+kind_text Shape = codes "Shape"
 kind_text Word = codes "Word"
 kind_text Count = codes "Count"
 kind_text Index = codes "Index"
 kind_text Number = codes "Number"
+kind_text Grade = codes "Grade"
 kind_text Twice = codes "Twice"
 kind_text NoEnd = codes "NoEnd"
 kind_text After = codes "After"

@@ -25,6 +25,8 @@ mod row_tests;
 mod serve_tests;
 #[cfg(test)]
 mod session_tests;
+#[cfg(test)]
+mod shape_tests;
 mod tables;
 mod talk;
 #[cfg(test)]

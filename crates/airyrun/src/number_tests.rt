@@ -3,7 +3,7 @@ use std::test::Fail;
 
 /// Intersection numbers and Theta numbers: multinomials in genus 0, `1/(24^g g!)` at one index, a string and a dilaton equation, and what
 /// the literature prints; then the refusals.
-const NUMBERS: [Case; 17] = [
+const NUMBERS: [Case; 18] = [
     ("number wk 0 0 0 0", b"", 0, b"1\n"),
     ("number wk 0 2 0 1 0 0 0", b"", 0, b"3\n"),
     ("number wk 1 1", b"", 0, b"1/24\n"),
@@ -17,6 +17,12 @@ const NUMBERS: [Case; 17] = [
     ("number bgw 1 0", b"", 0, b"1/8\n"),
     ("number bgw 2 1", b"", 0, b"3/128\n"),
     ("number bgw 3 2", b"", 0, b"15/1024\n"),
+    (
+        "number bgw 0 0 0 0 0 0 0 0 0 0 0 0 0 0 0 0 0 0 0 0 0 0 0 0 0 0 0",
+        b"",
+        0,
+        b"0\n",
+    ),
     ("number wk 12 0 0 0", b"", 5, b"refused: bound 25\n"),
     (
         "number wk 0 0 0 0 --workers=1",
@@ -34,7 +40,7 @@ const NUMBERS: [Case; 17] = [
 ];
 
 /// Volumes as the literature has them, and the refusals.
-const VOLUMES: [Case; 12] = [
+const VOLUMES: [Case; 13] = [
     ("volume 0 3", b"", 0, b"1\n"),
     ("volume 1 1", b"", 0, b"1/12 p + 1/48 L1^2\n"),
     (
@@ -56,6 +62,7 @@ const VOLUMES: [Case; 12] = [
         b"29/192 p^4 + 169/2880 p^3 L1^2 + 139/23040 p^2 L1^4 + 29/138240 p L1^6 + 1/442368 L1^8\n",
     ),
     ("volume 0 26", b"", 5, b"refused: terms 58343356817424\n"),
+    ("volume 0 12", b"", 5, b"refused: terms 293930\n"),
     ("volume 13 1", b"", 5, b"refused: bound 25\n"),
     ("volume 6 2", b"", 6, b"refused: over at 6,2 [0 0]\n"),
     ("volume 0 27", b"", 2, b"refused: word 3\n"),

@@ -203,11 +203,12 @@ const STEEP: &[u8] = b"\
     B 0 0 0 1\nB 0 1 0 1/4\nB 1 0 0 1/4\nB 1 1 0 -4611686018427387903/16\nB 1 1 1 1152921504606846976\nend\n";
 
 /// Relations that fail or leave the range, numbers that do, and orders that differ.
-const CHECKS: [Case; 15] = [
+const CHECKS: [Case; 16] = [
     ("relations 3 wk", b"", 0, b"closed\n"),
     ("relations 3 bgw", b"", 0, b"closed\n"),
     ("relations 2 wp", b"", 0, b"closed\n"),
     ("relations 2 -", TWO_INDICES, 0, b"closed\n"),
+    ("relations 1 -", b"airy 1\ndim 32\nend\n", 0, b"closed\n"),
     ("table - 1", OPEN, 4, b"refused: AA at 0 1 1: 1 and 0\n"),
     (
         "session - 1 finish",

@@ -18,7 +18,7 @@ use airy_math::{below_dim, own_tensors, planned_once};
 use airy_relations::{Verdict, check};
 use command_words::Left;
 use fill_crew::Gate;
-use series_law::{job_checked, job_uniqueness, same_tables};
+use series_law::{job_checked, job_uniqueness, same_tables, widened_relations};
 use sparse_tensor::Tensors;
 use std::alloc::Global;
 use std::thread::Threads;
@@ -154,6 +154,7 @@ fn print_closed<R: Threads + Sync, W: Sink, G: Gate + Sync>(
     job_checked();
     planned_once();
     own_tensors();
+    widened_relations();
     tensors.soundness_fact();
     match check(&tensors, tensors.dim()) {
         Verdict::Closed => print_stored(rt, alloc, tensors, bound, Form::Rows, workers, gate, out),
@@ -184,6 +185,7 @@ fn talk_closed<R: Threads + Sync, W: Sink, G: Gate + Sync>(
     below_dim();
     same_tables();
     own_tensors();
+    widened_relations();
     tensors.soundness_fact();
     let dim = tensors.dim();
     match check(&tensors, dim) {
@@ -226,10 +228,12 @@ fn name_of(kind: LineKind) -> &'static [u8]
     match kind {
         LineKind::Header => b"Header",
         LineKind::Dim => b"Dim",
+        LineKind::Shape => b"Shape",
         LineKind::Word => b"Word",
         LineKind::Count => b"Count",
         LineKind::Index => b"Index",
         LineKind::Number => b"Number",
+        LineKind::Grade => b"Grade",
         LineKind::Twice => b"Twice",
         LineKind::NoEnd => b"NoEnd",
         LineKind::After => b"After",

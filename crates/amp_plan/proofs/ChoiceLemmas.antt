@@ -38,11 +38,11 @@ unfolding each
 each-none f [] h = refl
 each-none f (x ∷ xs) h = ap₂ ◌++◌ h.0 (each-none f xs h.1)
 
-all-left : {A : Type 0} (P : A → Type 0) (xs ys : List A) → AllByRecursion P (xs ++ ys) → AllByRecursion P xs
+pub all-left : {A : Type 0} (P : A → Type 0) (xs ys : List A) → AllByRecursion P (xs ++ ys) → AllByRecursion P xs
 all-left P [] ys h = tt
 all-left P (x ∷ xs) ys h = (h.0, all-left P xs ys h.1)
 
-all-right : {A : Type 0} (P : A → Type 0) (xs ys : List A) → AllByRecursion P (xs ++ ys) → AllByRecursion P ys
+pub all-right : {A : Type 0} (P : A → Type 0) (xs ys : List A) → AllByRecursion P (xs ++ ys) → AllByRecursion P ys
 all-right P [] ys h = h
 all-right P (x ∷ xs) ys h = all-right P xs ys h.1
 
@@ -83,7 +83,7 @@ all-counting P f k (suc n) h = all-append P (f k) (each (count_from (suc k) n) f
 
 -- ---- splits
 
-behind-more : (s u : Split) (r : ℕ × ℕ) (t : ℕ) → behind s (put_before r.0 r.1 t u) ≡ behind (more_of s r t) u
+pub behind-more : (s u : Split) (r : ℕ × ℕ) (t : ℕ) → behind s (put_before r.0 r.1 t u) ≡ behind (more_of s r t) u
 unfolding behind put_before more_of
 behind-more s u r t =
     let part : s.part ++ (replicate t r.0 ++ u.part) ≡ (s.part ++ replicate t r.0) ++ u.part = sym (append_assoc s.part (replicate t r.0) u.part) in
@@ -91,13 +91,13 @@ behind-more s u r t =
     let ways : s.ways * (binomial r.1 t * u.ways) ≡ (s.ways * binomial r.1 t) * u.ways = sym (mul_assoc s.ways (binomial r.1 t) u.ways) in
     λ i. record { part = part i; rest = rest i; ways = ways i }
 
-behind-end : (s : Split) → behind s (chosen_split []) ≡ s
+pub behind-end : (s : Split) → behind s (chosen_split []) ≡ s
 unfolding behind chosen_split
 behind-end s =
     let ways : s.ways * 1 ≡ s.ways = omega arith in
     λ i. record { part = append-nil s.part i; rest = append-nil s.rest i; ways = ways i }
 
-behind-none : (s : Split) → behind no_split s ≡ s
+pub behind-none : (s : Split) → behind no_split s ≡ s
 unfolding behind no_split
 behind-none s =
     let ways : 1 * s.ways ≡ s.ways = omega arith in

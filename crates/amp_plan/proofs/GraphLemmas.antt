@@ -12,10 +12,9 @@ use Rattle.airy_math.specs.Ranks.{key_at}
 use Rattle.amp_plan.specs.Plans.{Planning, tensors_of, keys_of}
 use Rattle.amp_plan.specs.Needs.{has, needs_rank, needed, resting, need_counts, first_past, edges_of, needs_at, dependents_at}
 use Rattle.amp_plan.specs.Limits.{limit_of, PassesNeeds}
-use Rattle.amp_plan.specs.Rows.{AreDistinct, IsRow, ArePushed, AreTurned}
+use Rattle.amp_plan.specs.Rows.{AreDistinct, IsRow, AreTurned, standing}
 use Rattle.amp_plan.specs.Marks.{Marks, AreNamed}
-use Rattle.amp_plan.specs.Kept.{IsGraph, AreDependents}
-use Rattle.amp_plan.proofs.RowLemmas.{keep-below_more}
+use Rattle.amp_plan.specs.Kept.{IsGraph, AreDependents, AreCollected, IsNamedNext}
 use Rattle.amp_plan.proofs.LimitLemmas.{limit-within, limit-needs}
 
 -- ---- numbers that pass a test
@@ -52,6 +51,10 @@ has-kept p k (suc n) q h l = by (cases_eq q k) (p k) refl (has-kept p (suc k) n 
 pub has-below : (p : ℕ → Bool) (n q : ℕ) → q < n → has q (keep p (below n)) ≡ p q
 unfolding below
 has-below p n q h = has-kept p 0 n q (omega arith) (omega arith)
+
+pub has-beyond : (p : ℕ → Bool) (n q : ℕ) → n ≤ q → has q (keep p (below n)) ≡ false
+unfolding below
+has-beyond p n q h = has-outside p 0 n q (inr (omega arith))
 
 distinct-kept : (p : ℕ → Bool) (k n : ℕ) → AreDistinct (keep p (count_from k n))
 unfolding AreDistinct keep count_from
@@ -150,8 +153,8 @@ counts-end T X r h = let e : length (planned T X) - r ≡ 0 = omega arith in rw 
 -- ---- the loop over the ranks
 
 pub record IsGathered (p : Planning) (r : ℕ) (rows : List (List ℕ)) (marks : Marks) (count : ℕ) : Type 0 where
-  pub len : length rows ≡ length (keys_of p)
-  pub row : (q : ℕ) → q < length (keys_of p) → get_or rows q [] ≡ keep (λ i. needs_rank (tensors_of p) p.bound i q) (below r)
+  pub len : length rows ≡ r
+  pub named : (i : ℕ) → i < r → AreNamed (tensors_of p) p.bound i (get_or rows i [])
   pub size : marks.size ≡ length (keys_of p)
   pub stamp : marks.stamp ≤ r + 1
   pub edges : count + total (counts_from (tensors_of p) p.bound r) ≡ edges_of p
@@ -175,11 +178,11 @@ past-here : (m c r : ℕ) (cs : List ℕ) → m < c → option_map (λ i. i + r)
 unfolding first_past
 past-here m c r cs h = let e : ltb m c ≡ true = lt-ltb m c h in rw e (ap Some (omega arith))
 
-pub gathered-none : (p : Planning) (rows : List (List ℕ)) (marks : Marks) → length rows ≡ length (keys_of p) → ((q : ℕ) → get_or rows q [] ≡ []) → marks.size ≡ length (keys_of p) → marks.stamp ≡ 1 → IsGathered p 0 rows marks 0
-unfolding below count_from keep edges_of
-gathered-none p rows marks l e s t = record {
-  len = l;
-  row = λ q h. e q;
+pub gathered-none : (p : Planning) (rows : List (List ℕ)) (marks : Marks) → rows ≡ [] → marks.size ≡ length (keys_of p) → marks.stamp ≡ 1 → IsGathered p 0 rows marks 0
+unfolding edges_of
+gathered-none p rows marks e s t = record {
+  len = ap length e;
+  named = λ i h. absurd (omega arith);
   size = s;
   stamp = omega arith;
   edges = omega (arith, ap total (counts-all (tensors_of p) p.bound));
@@ -191,17 +194,21 @@ gathered-none p rows marks l e s t = record {
     same None = refl
     same (Some i) = ap Some (omega arith)
 
-pub gathered-more : (p : Planning) (r : ℕ) (rows next : List (List ℕ)) (marks marks' : Marks) (count : ℕ) (ranks : List ℕ) → IsGathered p r rows marks count → r < length (keys_of p) → AreNamed (tensors_of p) p.bound r ranks
-    → marks'.size ≡ marks.size → marks'.stamp ≡ r + 2 → ArePushed r ranks rows next → count + length ranks ≤ 4000000 → IsGathered p (r + 1) next marks' (count + length ranks)
+-- the needs that were put behind the others
+pub named-next : (p : Planning) (r : ℕ) (rows next : List (List ℕ)) → length rows ≡ r → IsNamedNext p r rows next → AreNamed (tensors_of p) p.bound r (get_or next r [])
+named-next p r rows next l n = subst (AreNamed (tensors_of p) p.bound r) (sym (ap (λ i. get_or next i []) (sym l) ∙ n.longer.last)) n.named
+
+pub gathered-more : (p : Planning) (r : ℕ) (rows next : List (List ℕ)) (marks marks' : Marks) (count : ℕ) → IsGathered p r rows marks count → r < length (keys_of p) → IsNamedNext p r rows next
+    → marks'.size ≡ marks.size → marks'.stamp ≤ r + 2 → count + length (get_or next r []) ≤ 4000000 → IsGathered p (r + 1) next marks' (count + length (get_or next r []))
 unfolding keys_of total
-gathered-more p r rows next marks marks' count ranks g h a s t w few =
+gathered-more p r rows next marks marks' count g h a s t few =
     let T = tensors_of p in
     let X = p.bound in
-    let n : length (needed T X r) ≡ length ranks = length-needed T X r ranks a in
+    let n : length (needed T X r) ≡ length (get_or next r []) = length-needed T X r (get_or next r []) (named-next p r rows next g.len a) in
     let cs : counts_from T X r ≡ length (needed T X r) ∷ counts_from T X (r + 1) = counts-next T X r h in
     record {
-      len = w.len ∙ g.len;
-      row = λ q l. w.row q (subst (λ k. q < k) (sym g.len) l) ∙ ap₂ (λ x b. x ++ cond b (r ∷ []) []) (g.row q l) (a.named q) ∙ sym (keep-below_more (λ i. needs_rank T X i q) r);
+      len = a.longer.len ∙ ap (λ n. n + 1) g.len;
+      named = λ i l. named i l (cases_eq i r);
       size = s ∙ g.size;
       stamp = omega arith;
       edges = omega (arith, g.edges, ap total cs, n);
@@ -210,38 +217,56 @@ gathered-more p r rows next marks marks' count ranks g h a s t w few =
           ∙ past-next (4000000 - count) (length (needed T X r)) r (counts_from T X (r + 1)) (omega (arith, n))
           ∙ ap (λ m. option_map (λ i. i + (r + 1)) (first_past m (counts_from T X (r + 1)))) (omega (arith, n));
     }
+  where
+    named : (i : ℕ) → i < r + 1 → (i ≡ r) ⊎ (i ≡ r → ⊥) → AreNamed (tensors_of p) p.bound i (get_or next i [])
+    named i l (inl e) = subst (λ j. AreNamed (tensors_of p) p.bound j (get_or next j [])) (sym e) (named-next p r rows next g.len a)
+    named i l (inr d) = subst (AreNamed (tensors_of p) p.bound i) (sym (a.longer.before i (omega (arith, g.len)))) (g.named i (omega arith))
 
-pub gathered-past : (p : Planning) (r : ℕ) (rows : List (List ℕ)) (marks : Marks) (count : ℕ) (ranks : List ℕ) → 0 < p.bound → p.bound ≤ 24 → length (keys_of p) ≤ 200000
-    → IsGathered p r rows marks count → r < length (keys_of p) → AreNamed (tensors_of p) p.bound r ranks → 4000000 < count + length ranks → limit_of p ≡ PassesNeeds (key_at (keys_of p) r)
+pub gathered-past : (p : Planning) (r : ℕ) (rows next : List (List ℕ)) (marks : Marks) (count : ℕ) → 0 < p.bound → p.bound ≤ 24 → length (keys_of p) ≤ 200000
+    → IsGathered p r rows marks count → r < length (keys_of p) → IsNamedNext p r rows next → 4000000 < count + length (get_or next r []) → limit_of p ≡ PassesNeeds (key_at (keys_of p) r)
 unfolding keys_of
-gathered-past p r rows marks count ranks some most small g h a many =
+gathered-past p r rows next marks count some most small g h a many =
     let T = tensors_of p in
     let X = p.bound in
-    let n : length (needed T X r) ≡ length ranks = length-needed T X r ranks a in
+    let n : length (needed T X r) ≡ length (get_or next r []) = length-needed T X r (get_or next r []) (named-next p r rows next g.len a) in
     limit-needs p r some most small
     (g.past ∙ ap (λ l. option_map (λ i. i + r) (first_past (4000000 - count) l)) (counts-next T X r h) ∙ past-here (4000000 - count) (length (needed T X r)) r (counts_from T X (r + 1)) (omega (arith, n)))
 
-pub gathered-all : (p : Planning) (r : ℕ) (rows : List (List ℕ)) (marks : Marks) (count : ℕ) → 0 < p.bound → p.bound ≤ 24 → length (keys_of p) ≤ 200000 → IsGathered p r rows marks count → r ≡ length (keys_of p) → AreDependents p rows count
-unfolding keys_of dependents_at resting total first_past
+pub gathered-all : (p : Planning) (r : ℕ) (rows : List (List ℕ)) (marks : Marks) (count : ℕ) → 0 < p.bound → p.bound ≤ 24 → length (keys_of p) ≤ 200000 → IsGathered p r rows marks count → r ≡ length (keys_of p) → AreCollected p rows count
+unfolding keys_of total first_past
 gathered-all p r rows marks count some most small g e =
     let T = tensors_of p in
     let X = p.bound in
     let none : counts_from T X r ≡ [] = counts-end T X r (omega arith) in
     record {
-      len = g.len;
-      row = λ q h. g.row q h ∙ ap (λ n. keep (λ i. needs_rank T X i q) (below n)) e;
+      len = g.len ∙ e;
+      named = λ i h. g.named i (omega arith);
       edges = omega (arith, g.edges, ap total none);
       within = limit-within p some most small (g.past ∙ ap (λ l. option_map (λ i. i + r) (first_past (4000000 - count) l)) none);
     }
 
--- ---- the needs from the dependents
+-- ---- the dependents from what was collected, and the needs from the dependents
+
+pub collected-rows : (p : Planning) (rows : List (List ℕ)) (count r : ℕ) → AreCollected p rows count → r < length (keys_of p) → IsRow (length (keys_of p)) (get_or rows r [])
+unfolding keys_of
+collected-rows p rows count r a h = (a.named r h).row
+
+pub dependents_from : (p : Planning) (rows turns : List (List ℕ)) (count : ℕ) → AreCollected p rows count → AreTurned (length (keys_of p)) rows turns → AreDependents p turns count
+unfolding dependents_at resting keys_of standing
+dependents_from p rows turns count a t = record {
+  len = t.len;
+  row = λ q h. t.row q h ∙ ap (λ n. keep (λ r. has q (get_or rows r [])) (below n)) a.len
+      ∙ keep-same (λ r. has q (get_or rows r [])) (λ r. needs_rank (tensors_of p) p.bound r q) (length (keys_of p)) (λ r l. (a.named r l).named q);
+  edges = a.edges;
+  within = a.within;
+}
 
 pub dependents-rows : (p : Planning) (rows : List (List ℕ)) (count r : ℕ) → AreDependents p rows count → r < length (keys_of p) → IsRow (length (keys_of p)) (get_or rows r [])
 unfolding dependents_at resting keys_of
 dependents-rows p rows count r d h = subst (IsRow (length (keys_of p))) (sym (d.row r h)) (keep-row (λ i. needs_rank (tensors_of p) p.bound i r) (length (keys_of p)))
 
 pub graph_from : (p : Planning) (rows turns : List (List ℕ)) (count : ℕ) → AreDependents p rows count → AreTurned (length (keys_of p)) rows turns → IsGraph p turns rows count
-unfolding dependents_at resting keys_of needs_at needed
+unfolding dependents_at resting keys_of needs_at needed standing
 graph_from p rows turns count d t = record {
   down_len = t.len;
   needs = λ r h. t.row r h ∙ ap (λ n. keep (λ q. has r (get_or rows q [])) (below n)) d.len

@@ -7,6 +7,7 @@ pub mod LimitLemmas
 pub mod PlanLemmas
 pub mod PlaceLemmas
 pub mod RowLemmas
+pub mod FillLemmas
 pub mod ListWalkLemmas
 pub mod RankWalkLemmas
 pub mod WalkLemmas
@@ -15,6 +16,7 @@ pub mod PartLemmas
 pub mod MarkLemmas
 pub mod NeedLemmas
 pub mod GraphLemmas
+pub mod GrowLemmas
 pub mod NeedsFacts
 pub mod MeasureLemmas
 pub mod ChoiceLemmas
@@ -23,4 +25,6 @@ pub mod FindLemmas
 pub mod StageLemmas
 pub mod RestLemmas
 pub mod StartLemmas
+pub mod SplitListLemmas
+pub mod ChainWalkLemmas
 mod TestLemmas

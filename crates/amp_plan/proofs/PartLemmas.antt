@@ -19,7 +19,7 @@ use Rattle.amp_plan.proofs.RankWalkLemmas.{sorted-remove}
 
 -- ---- lists
 
-map-each : {A B C : Type 0} (h : B → C) (f : A → List B) (xs : List A) → map h (each xs f) ≡ each xs (λ x. map h (f x))
+pub map-each : {A B C : Type 0} (h : B → C) (f : A → List B) (xs : List A) → map h (each xs f) ≡ each xs (λ x. map h (f x))
 unfolding each
 map-each h f [] = refl
 map-each h f (x ∷ xs) = map-append h (f x) (each xs f) ∙ ap (λ l. map h (f x) ++ l) (map-each h f xs)

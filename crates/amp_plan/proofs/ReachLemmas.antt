@@ -90,7 +90,7 @@ live-excess p c g x xs e small byte bytes few h =
     let bound : unsigned_abs ((pos x -ℤ c) +ℤ excess c xs) ≤ 2 ^ 20 = omega (arith, ints, small, byte, excess-small c xs small bytes, few) in
     covered-most p.tensors.shape g ((pos x -ℤ c) +ℤ excess c xs) bound (subst (λ z. covers_excess p.tensors.shape g z ≡ true) sum (sym (covers-excess p.tensors.shape (key_of g (insert x xs))) ∙ covered))
 
-no_ranks : (p : Planning) (L R : Key) (f : ℕ → ℕ → RankedTerm) → (live (tensors_of p).shape L ≡ true → live (tensors_of p).shape R ≡ true → ⊥) → for_ranks (live_rank p L) (live_rank p R) f ≡ []
+pub no_ranks : (p : Planning) (L R : Key) (f : ℕ → ℕ → RankedTerm) → (live (tensors_of p).shape L ≡ true → live (tensors_of p).shape R ≡ true → ⊥) → for_ranks (live_rank p L) (live_rank p R) f ≡ []
 unfolding for_ranks live_rank
 no_ranks p L R f n = by (live (tensors_of p).shape L) (live (tensors_of p).shape R) n
   where
@@ -100,7 +100,7 @@ no_ranks p L R f n = by (live (tensors_of p).shape L) (live (tensors_of p).shape
     by false t n = refl
 
 -- a product is live only where the part's excess lies between the share's two numbers
-live_within : (p : Planning) (h : Share) (t : Split) → IsShare p h → FitsShare p h t → live (tensors_of p).shape (key_of h.k (insert h.pair.a t.part)) ≡ true → live (tensors_of p).shape (key_of (h.genus - h.k) (insert h.pair.b t.rest)) ≡ true
+pub live_within : (p : Planning) (h : Share) (t : Split) → IsShare p h → FitsShare p h t → live (tensors_of p).shape (key_of h.k (insert h.pair.a t.part)) ≡ true → live (tensors_of p).shape (key_of (h.genus - h.k) (insert h.pair.b t.rest)) ≡ true
     → (h.low ≤ℤ excess h.per_n t.part) × (excess h.per_n t.part ≤ℤ h.high)
 unfolding excess tensors_of looked_up
 live_within p h t is f left right =

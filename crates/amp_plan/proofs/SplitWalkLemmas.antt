@@ -49,7 +49,7 @@ all_at : {A : Type 0} (P : A → Type 0) (xs ys : List A) (x : A) → AllByRecur
 all_at P [] ys x h = h.0
 all_at P (z ∷ xs) ys x h = all_at P xs ys x h.1
 
-total_at : {A : Type 0} (f : A → ℕ) (xs ys : List A) (x : A) → f x ≤ total (map f (xs ++ x ∷ ys))
+pub total_at : {A : Type 0} (f : A → ℕ) (xs ys : List A) (x : A) → f x ≤ total (map f (xs ++ x ∷ ys))
 unfolding total
 total_at f [] ys x = omega arith
 total_at f (z ∷ xs) ys x = omega (arith, total_at f xs ys x)

@@ -101,11 +101,27 @@ replicate-push : (t x : ℕ) → replicate (suc t) x ≡ replicate t x ++ x ∷ 
 replicate-push zero x = refl
 replicate-push (suc t) x = ap (λ l. x ∷ l) (replicate-push t x)
 
-bytes-append : (xs ys : List ℕ) → AreBytes xs → AreBytes ys → AreBytes (xs ++ ys)
+-- the measure with one copy more
+pub part-next : (c : ℤ) (xs : List ℕ) (x t : ℕ) (m n item : Measure) → IsMeasured c (xs ++ replicate t x) m → IsMeasured c (x ∷ []) item
+    → n ≡ record { places = m.places + item.places; excess = m.excess +ℤ item.excess; code = m.code + item.code } → IsMeasured c (xs ++ replicate (t + 1) x) n
+part-next c xs x t m n item a i same =
+    let more : replicate (t + 1) x ≡ replicate t x ++ x ∷ [] = ap (λ n. replicate n x) (let u : t + 1 ≡ suc t = omega arith in u) ∙ replicate-push t x in
+    let list : (xs ++ replicate t x) ++ x ∷ [] ≡ xs ++ replicate (t + 1) x = append_assoc xs (replicate t x) (x ∷ []) ∙ ap (λ l. xs ++ l) (sym more) in
+    subst (λ l. IsMeasured c l n) list (subst (IsMeasured c ((xs ++ replicate t x) ++ x ∷ [])) (sym same) (measured-append c (xs ++ replicate t x) (x ∷ []) m item a i))
+
+-- and the number of ways
+pub ways-next : (w n t : ℕ) → (w * binomial n t) * (n - t) / (t + 1) ≡ w * binomial n (t + 1)
+ways-next w n t =
+    let u : t + 1 ≡ suc t = omega arith in
+    let step = binomial-step n t in
+    let whole : (w * binomial n t) * (n - t) ≡ (w * binomial n (suc t)) * suc t = mul_assoc w (binomial n t) (n - t) ∙ ap (λ z. w * z) (sym step) ∙ sym (mul_assoc w (binomial n (suc t)) (suc t)) in
+    rw (u, whole) (mul-div_cancel (w * binomial n (suc t)) (omega arith))
+
+pub bytes-append : (xs ys : List ℕ) → AreBytes xs → AreBytes ys → AreBytes (xs ++ ys)
 bytes-append [] ys h k = k
 bytes-append (x ∷ xs) ys h k = (h.0, bytes-append xs ys h.1 k)
 
-bytes-replicate : (t x : ℕ) → x < 256 → AreBytes (replicate t x)
+pub bytes-replicate : (t x : ℕ) → x < 256 → AreBytes (replicate t x)
 bytes-replicate zero x h = tt
 bytes-replicate (suc t) x h = (h, bytes-replicate t x h)
 
@@ -174,19 +190,9 @@ module _ (p : Planning) (h : Share) (r : ℕ × ℕ) (others : List (ℕ × ℕ)
 
   pub at_next : (d e : Chosen) (t : ℕ) (item : Measure) → IsAt h r others s d t → IsMeasured h.per_n (r.0 ∷ []) item
       → e ≡ record d { part = record { places = d.part.places + item.places; excess = d.part.excess +ℤ item.excess; code = d.part.code + item.code }; ways = d.ways * (r.1 - t) / (t + 1) } → IsAt h r others s e (t + 1)
-  at_next d e t item a i same =
-      let more : replicate (t + 1) r.0 ≡ replicate t r.0 ++ r.0 ∷ [] = ap (λ n. replicate n r.0) (let u : t + 1 ≡ suc t = omega arith in u) ∙ replicate-push t r.0 in
-      let list : (s.part ++ replicate t r.0) ++ r.0 ∷ [] ≡ s.part ++ replicate (t + 1) r.0 = append_assoc s.part (replicate t r.0) (r.0 ∷ []) ∙ ap (λ l. s.part ++ l) (sym more) in
-      record {
-        part = subst (λ l. IsMeasured h.per_n l e.part) list (subst (IsMeasured h.per_n ((s.part ++ replicate t r.0) ++ r.0 ∷ [])) (sym (ap (λ z. z.part) same)) (measured-append h.per_n (s.part ++ replicate t r.0) (r.0 ∷ []) d.part item a.part i));
-        ways = ap (λ z. z.ways) same ∙ ap (λ n. n * (r.1 - t) / (t + 1)) a.ways ∙ ways-next s.ways r.1 t;
-        gain = ap (λ z. z.gain) same ∙ a.gain;
-        loss = ap (λ z. z.loss) same ∙ a.loss;
-      }
-    where
-      ways-next : (w n t : ℕ) → (w * binomial n t) * (n - t) / (t + 1) ≡ w * binomial n (t + 1)
-      ways-next w n t =
-          let u : t + 1 ≡ suc t = omega arith in
-          let step = binomial-step n t in
-          let whole : (w * binomial n t) * (n - t) ≡ (w * binomial n (suc t)) * suc t = mul_assoc w (binomial n t) (n - t) ∙ ap (λ z. w * z) (sym step) ∙ sym (mul_assoc w (binomial n (suc t)) (suc t)) in
-          rw (u, whole) (mul-div_cancel (w * binomial n (suc t)) (omega arith))
+  at_next d e t item a i same = record {
+    part = part-next h.per_n s.part r.0 t d.part e.part item a.part i (ap (λ z. z.part) same);
+    ways = ap (λ z. z.ways) same ∙ ap (λ n. n * (r.1 - t) / (t + 1)) a.ways ∙ ways-next s.ways r.1 t;
+    gain = ap (λ z. z.gain) same ∙ a.gain;
+    loss = ap (λ z. z.loss) same ∙ a.loss;
+  }

@@ -24,7 +24,7 @@ sorted-weaken k m n [] l s = tt
 sorted-weaken k m n (x ∷ xs) l s = (s.0, omega (arith, l, s.1), sorted-weaken x m n xs l s.2)
 
 -- each split of the list fits the share
-all_fit : (p : Planning) (h : Share) (I : List ℕ) → IsShare p h → HasRoom (tensors_of p) p.bound h.genus I → IsMeasured h.per_n (h.pair.b ∷ I) h.right → AllByRecursion (FitsShare p h) (splits I)
+pub all_fit : (p : Planning) (h : Share) (I : List ℕ) → IsShare p h → HasRoom (tensors_of p) p.bound h.genus I → IsMeasured h.per_n (h.pair.b ∷ I) h.right → AllByRecursion (FitsShare p h) (splits I)
 unfolding tensors_of looked_up
 all_fit p h I is room right =
     let few : length I ≤ 25 = omega (arith, room.level, is.bound) in

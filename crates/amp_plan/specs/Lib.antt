@@ -11,3 +11,4 @@ pub mod Kept
 pub mod Measures
 pub mod Shares
 pub mod Rests
+pub mod SplitLists

@@ -1,5 +1,5 @@
 -- What a key needs, as ranks, and which keys need it.
-use Prim.Native.Nat.{ℕ, suc, ◌-◌, ◌<◌}
+use Prim.Native.Nat.{ℕ, suc, ◌-◌, ◌<◌, ◌≤◌}
 use mathlib.Core.Path.{◌≡◌}
 use mathlib.Core.Bool.{Bool, true, false, ◌||◌, cond}
 use mathlib.Core.List.{List, [], ◌∷◌, map}
@@ -12,7 +12,7 @@ use Rattle.airy_math.specs.Tensors.{Tensors}
 use Rattle.airy_math.specs.Terms.{needs, StandsIn}
 use Rattle.airy_math.specs.Planned.{planned}
 use Rattle.airy_math.specs.Ranks as ranks
-use Rattle.amp_plan.specs.Plans.{Planning, tensors_of}
+use Rattle.amp_plan.specs.Plans.{Planning, tensors_of, keys_of, key_at}
 
 -- the number stands in the list
 unfoldable pub has : ℕ → List ℕ → Bool
@@ -69,3 +69,9 @@ dependents_at p q = resting (tensors_of p) p.bound q
 -- the number of all needs
 unfoldable pub edges_of : Planning → ℕ
 edges_of p = total (need_counts (tensors_of p) p.bound)
+
+-- The ranks of p are the first ones of q, with their keys and needs.
+pub record KeepsRanks (p q : Planning) : Type 0 where
+  pub fewer : length (keys_of p) ≤ length (keys_of q)
+  pub keys : (r : ℕ) → r < length (keys_of p) → key_at q r ≡ key_at p r
+  pub needs : (r : ℕ) → r < length (keys_of p) → needs_at q r ≡ needs_at p r

@@ -14,7 +14,7 @@ use Rattle.airy_math.specs.Sums.{binomial, each}
 use Rattle.airy_index.specs.Choices.{all_splits, whole_length}
 use Rattle.amp_plan.specs.Plans.{Planning, tensors_of}
 use Rattle.amp_plan.specs.Ranked.{RankedTerm, NameAllowed}
-use Rattle.amp_plan.specs.Walk.{IsPartOf, split_part}
+use Rattle.amp_plan.specs.Walk.{IsPartOf, split_part, genus_part}
 use Rattle.amp_plan.specs.Measures.{IsMeasured, IsLight, gain, loss, law_excess}
 use Rattle.amp_plan.specs.declared.share.Share.{Share}
 use Rattle.amp_plan.specs.declared.share.Chosen.{Chosen}
@@ -39,6 +39,10 @@ listed (r ∷ rs) = replicate r.1 r.0 ++ listed rs
 -- the products of all splits that begin with the one that was chosen, and go on with the runs that are left
 unfoldable pub choice_part : Planning → Share → Split → List (ℕ × ℕ) → List RankedTerm
 choice_part p h s rs = each (all_splits rs) (λ t. split_part p h.genus h.pair.a h.pair.b h.pair.weight h.k (behind s t))
+
+-- the products of a share of what is left of a key
+unfoldable pub of_share : Planning → Share → List ℕ → List RankedTerm
+of_share p h I = genus_part p h.genus I h.pair.a h.pair.b h.pair.weight h.k
 
 -- whether the part's excess can come between the share's two numbers
 unfoldable pub can_reach : Share → Chosen → Bool

@@ -16,6 +16,7 @@ mod rest;
 mod rows;
 mod search;
 mod share;
+mod split_list;
 mod terms;
 mod visitor;
 mod walk;
@@ -23,7 +24,7 @@ mod window;
 
 pub use cause::{PlanCause, PlanErr};
 pub use place::Place;
-pub use plan::Plan;
+pub use plan::{GrowErr, Plan};
 pub use terms::walk_terms;
 pub use visitor::TermVisitor;
 

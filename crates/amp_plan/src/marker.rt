@@ -5,6 +5,7 @@ ghost use Rattle.amp_plan.specs.Ranked.{Alone, Once, Joined, Twice};
 ghost use Rattle.amp_plan.specs.Marks.{marked, AreNamed};
 
 use crate::ranking::Ranking;
+use crate::rows::zeros;
 use crate::visitor::TermVisitor;
 use crate::walk::walk_ranked;
 use frac128::Frac;
@@ -37,10 +38,7 @@ impl Marker {
     pub(crate) fn new(alloc: Global, size: u32) -> Result<Marker, AllocError>
         ensures { IfOk result (λ m. m ≡ record { row = []; size = size; stamp = 1 }) }
     {
-        let mut stamps = Vec::with_capacity(alloc, size as usize)?;
-        for _ in 0..size {
-            stamps.push(0)?;
-        }
+        let stamps = zeros(alloc, size as usize)?;
         let row = Vec::with_capacity(alloc, size as usize)?;
         Ok(Marker {
             stamps,

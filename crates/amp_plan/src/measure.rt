@@ -11,7 +11,7 @@ use key_index::KeyIndex;
 
 /// What a walk carries of a list of indices in place of the list: how many there are, their sum less the law's number
 /// for each, and their code.
-#[derive(Clone, Copy)]
+#[derive(Clone, Copy, Default)]
 pub(crate) struct Measure {
     pub(crate) excess: i64,
     pub(crate) code: u64,

@@ -2,13 +2,14 @@ ghost use Rattle.std.specs.Prelude.{◌≡◌, ◌<◌, ◌≤◌, length, OnOk,
 ghost use Rattle.airy_math.specs.Ranks.{ListsPlanned};
 ghost use Rattle.amp_plan.specs.Plans.{Planning, tensors_of, keys_of, key_at};
 ghost use Rattle.amp_plan.specs.Places.{place_in, letter_power};
-ghost use Rattle.amp_plan.specs.Needs.{AreNeeds, needs_at, dependents_at, edges_of};
+ghost use Rattle.amp_plan.specs.Needs.{AreNeeds, KeepsRanks, needs_at, dependents_at, edges_of};
 ghost use Rattle.amp_plan.specs.Limits.{limit_of, Within, Tells};
 
 use crate::cause::{PlanCause, PlanErr};
 use crate::graph::Graph;
 use crate::place::Place;
 use crate::ranking::Ranking;
+use crate::rows::Rows;
 use airy_index::Key;
 use sparse_tensor::Tensors;
 use std::alloc::Global;
@@ -21,6 +22,13 @@ pub struct Plan {
     graph: Graph,
 }
 
+/// A plan that doesn't grow comes back.
+#[derive(Drop)]
+pub struct GrowErr {
+    pub cause: PlanCause,
+    pub plan: Plan,
+}
+
 impl Model for Plan {
     ghost use Rattle.amp_plan.specs.Plans.{Planning, planning_code};
     ghost use Rattle.amp_plan.specs.Kept.{IsGraph};
@@ -31,7 +39,7 @@ impl Model for Plan {
 
     ghost view = { λ p. p.ranking };
 
-    ghost invariant = { λ p. IsGraph p.ranking p.graph.needs.items p.graph.dependents.items p.graph.edges };
+    ghost invariant = { λ p. IsGraph p.ranking p.graph.needs p.graph.dependents p.graph.edges };
 }
 
 impl Plan {
@@ -52,12 +60,42 @@ impl Plan {
             Ok(ranking) => ranking,
             Err(refusal) => return Err(refusal),
         };
-        match Graph::of(alloc, &ranking) {
+        match Graph::of(alloc, &ranking, &Rows::none(alloc)) {
             Ok(graph) => Ok(Plan { ranking, graph }),
             Err(cause) => Err(PlanErr {
                 cause,
                 tensors: ranking.into_tensors(),
             }),
+        }
+    }
+
+    /// The plan of the same tensors up to a greater bound, at most 24. Its first ranks are those of this plan, which are
+    /// neither listed nor collected again; and this plan comes back where none is made.
+    pub fn grow(self, alloc: Global, bound: u8) -> Result<Plan, GrowErr>
+        requires above { self.bound < bound }
+        requires most { bound ≤ 24 }
+        ensures plan { IfOk result (λ p. p ≡ record { tensors = self.tensors; bound = bound }) }
+        ensures within { OnOk result (limit_of (record { tensors = self.tensors; bound = bound }) ≡ Within) }
+        ensures kept { OnOk result (KeepsRanks self (record { tensors = self.tensors; bound = bound })) }
+        ensures cause { IfErr result (λ e. Tells (record { tensors = self.tensors; bound = bound }) e.cause) }
+        ensures back { IfErr result (λ e. e.plan ≡ self) }
+    {
+        self.ranking.grown_fact(bound);
+        let index = match self.ranking.index_up_to(alloc, bound) {
+            Ok(index) => index,
+            Err(cause) => return Err(GrowErr { cause, plan: self }),
+        };
+        let Plan { ranking, graph } = self;
+        let (ranking, low, index) = ranking.with_index(bound, index);
+        match Graph::of(alloc, &ranking, &graph.needs) {
+            Ok(graph) => Ok(Plan { ranking, graph }),
+            Err(cause) => {
+                let ranking = ranking.with_index(low, index).0;
+                Err(GrowErr {
+                    cause,
+                    plan: Plan { ranking, graph },
+                })
+            }
         }
     }
 
@@ -88,7 +126,7 @@ impl Plan {
         requires { rank < length (keys_of self.now) }
         ensures { result.now ≡ needs_at self.now rank }
     {
-        self.graph.needs[rank as usize].as_slice()
+        self.graph.needs.at(rank)
     }
 
     /// The ranks of the keys that need the key of a rank, ascending.
@@ -96,7 +134,7 @@ impl Plan {
         requires { rank < length (keys_of self.now) }
         ensures { result.now ≡ dependents_at self.now rank }
     {
-        self.graph.dependents[rank as usize].as_slice()
+        self.graph.dependents.at(rank)
     }
 
     /// The number of needs of all keys.

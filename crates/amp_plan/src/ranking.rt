@@ -1,6 +1,9 @@
-ghost use Rattle.std.specs.Prelude.{◌≡◌, ◌<◌, ◌≤◌, length, IfOk, IfErr};
-ghost use Rattle.airy_math.specs.Ranks.{ListsPlanned};
+ghost use Rattle.std.specs.Prelude.{◌≡◌, ◌<◌, ◌≤◌, ℕ, length, IfOk, IfErr};
+ghost use Rattle.airy_math.specs.Planned.{planned};
+ghost use Rattle.sparse_tensor.specs.Entries.{looked_up};
 ghost use Rattle.amp_plan.specs.Plans.{Planning, tensors_of, keys_of, key_at};
+ghost use Rattle.amp_plan.specs.Needs.{KeepsRanks, needs_at};
+ghost use Rattle.amp_plan.specs.Marks.{AreNamed};
 ghost use Rattle.amp_plan.specs.Places.{place_in, letter_power};
 ghost use Rattle.amp_plan.specs.Limits.{Tells};
 ghost use Rattle.amp_plan.specs.Kept.{IsRanking};
@@ -13,7 +16,7 @@ use crate::search::{are_below, place_among};
 use airy_index::{Covers, Key};
 use key_index::KeyIndex;
 use sparse_tensor::Tensors;
-use std::alloc::Global;
+use std::alloc::{AllocError, Global};
 use std::marker::Model;
 
 /// The planned keys of tensors up to a bound, with their ranks.
@@ -46,7 +49,7 @@ impl Ranking {
         ensures cause { IfErr result (λ e. Tells (record { tensors = t; bound = bound }) e.cause) }
         ensures back { IfErr result (λ e. e.tensors ≡ t) }
     {
-        match planned_index(alloc, &t, bound) {
+        match planned_index(alloc, &t, &[], 0, bound) {
             Ok(index) => Ok(Ranking {
                 tensors: t,
                 bound,
@@ -54,6 +57,31 @@ impl Ranking {
             }),
             Err(cause) => Err(PlanErr { cause, tensors: t }),
         }
+    }
+
+    /// The index of the planned keys up to a greater bound. Those up to its own are not listed again.
+    pub(crate) fn index_up_to(&self, alloc: Global, bound: u8) -> Result<KeyIndex, PlanCause>
+        requires above { self.now.bound < bound }
+        requires most { bound ≤ 24 }
+        ensures ranking { IfOk result (λ index. IsRanking (record { tensors = self.now.tensors; bound = bound }) index.keys) }
+        ensures cause { IfErr result (λ cause. Tells (record { tensors = self.now.tensors; bound = bound }) cause) }
+    {
+        planned_index(alloc, &self.tensors, self.index.keys(), self.bound, bound)
+    }
+
+    /// The ranking with a bound and the index of its keys in place of its own, which come back.
+    pub(crate) fn with_index(self, bound: u8, index: KeyIndex) -> (Ranking, u8, KeyIndex)
+        requires { IsRanking (record { tensors = self.tensors; bound = bound }) index.keys }
+        ensures ranking { result.0 ≡ record { tensors = self.tensors; bound = bound } }
+        ensures bound { result.1 ≡ self.bound }
+        ensures keys { IsRanking self result.2.keys }
+    {
+        let ranking = Ranking {
+            tensors: self.tensors,
+            bound,
+            index,
+        };
+        (ranking, self.bound, self.index)
     }
 
     /// Where the key stands.
@@ -135,6 +163,20 @@ impl Ranking {
         letter_at(&self.tensors, key)
     }
 
+    /// The ranks of a ranking are the first ones of that with a greater bound, with their keys and needs: the fact, for
+    /// proofs of callers.
+    pub(crate) fn grown_fact(&self, bound: u8)
+        requires { self.now.bound ≤ bound }
+        ensures kept { KeepsRanks self.now (record { tensors = self.now.tensors; bound = bound }) }
+        ensures named { (r : ℕ) → r < length (keys_of self.now) → AreNamed (tensors_of self.now) bound r (needs_at self.now r) }
+    {
+        let _bound = bound;
+        airy_math::planned_once();
+        airy_math::plan_ascends();
+        airy_math::needs_first();
+        airy_math::ranks();
+    }
+
     /// A ranking is within the limits on the bound and the keys: the fact, for proofs of callers.
     pub(crate) fn is_small(&self)
         ensures some { 0 < self.now.bound }
@@ -145,29 +187,58 @@ impl Ranking {
     }
 }
 
-/// The index of the planned keys up to a bound from 1 to 24.
-fn planned_index(alloc: Global, tensors: &Tensors, bound: u8) -> Result<KeyIndex, PlanCause>
-    requires some { 0 < bound }
+/// The index of the planned keys up to a bound from 1 to 24, where those up to a lower one are known.
+fn planned_index(
+    alloc: Global,
+    tensors: &Tensors,
+    known: &[Key],
+    low: u8,
+    bound: u8,
+) -> Result<KeyIndex, PlanCause>
+    requires above { low < bound }
     requires most { bound ≤ 24 }
+    requires known { known.now ≡ planned (looked_up tensors.now) low }
+    requires few { length known.now ≤ 200000 }
     ensures ranking { IfOk result (λ index. IsRanking (record { tensors = tensors.now; bound = bound }) index.keys) }
     ensures cause { IfErr result (λ cause. Tells (record { tensors = tensors.now; bound = bound }) cause) }
 {
-    let keys = planned_keys(alloc, tensors, bound)?;
+    let keys = planned_keys(alloc, tensors, known, low, bound)?;
     match KeyIndex::of(alloc, keys) {
         Ok(index) => Ok(index),
         Err(_) => Err(PlanCause::NoMemory),
     }
 }
 
-/// The planned keys up to a bound from 1 to 24.
-fn planned_keys(alloc: Global, tensors: &Tensors, bound: u8) -> Result<Vec<Key>, PlanCause>
-    requires some { 0 < bound }
+/// The same keys again.
+fn copied(alloc: Global, keys: &[Key]) -> Result<Vec<Key>, AllocError>
+    ensures { IfOk result (λ copies. copies.items ≡ keys.now) }
+{
+    let mut copies = Vec::with_capacity(alloc, keys.len())?;
+    for key in keys {
+        copies.push(key.copy())?;
+    }
+    Ok(copies)
+}
+
+/// The planned keys up to a bound from 1 to 24, where those up to a lower one are known.
+fn planned_keys(
+    alloc: Global,
+    tensors: &Tensors,
+    known: &[Key],
+    low: u8,
+    bound: u8,
+) -> Result<Vec<Key>, PlanCause>
+    requires above { low < bound }
     requires most { bound ≤ 24 }
+    requires known { known.now ≡ planned (looked_up tensors.now) low }
+    requires few { length known.now ≤ 200000 }
     ensures ranking { IfOk result (λ keys. IsRanking (record { tensors = tensors.now; bound = bound }) keys.items) }
     ensures cause { IfErr result (λ cause. Tells (record { tensors = tensors.now; bound = bound }) cause) }
 {
-    let mut keys = Vec::new(alloc);
-    for level in 1..bound + 1 {
+    let Ok(mut keys) = copied(alloc, known) else {
+        return Err(PlanCause::NoMemory);
+    };
+    for level in low + 1..bound + 1 {
         match add_level(&mut keys, tensors, level) {
             Ok(()) => {}
             Err(Stop::Full) => return Err(PlanCause::Cells { level }),

@@ -5,19 +5,21 @@ ghost use Rattle.std.specs.Prelude.{◌≡◌, ◌≤◌, ◌<◌, ◌+◌, ◌-
 ghost use Rattle.std.specs.Int.RustNames.{unsigned_abs};
 ghost use Rattle.airy_math.specs.Cuts.{natural};
 ghost use Rattle.airy_math.specs.Shapes.{per_n as shape_per_n};
-ghost use Rattle.airy_math.specs.Splits.{Split};
+ghost use Rattle.airy_math.specs.Splits.{Split, splits};
 ghost use Rattle.amp_plan.specs.Plans.{tensors_of, keys_of};
 ghost use Rattle.amp_plan.specs.Ranked.{NameAllowed, Takes};
 ghost use Rattle.amp_plan.specs.Rests.{IsRest};
 ghost use Rattle.amp_plan.specs.Walk.{HasRoom, genus_part};
 ghost use Rattle.amp_plan.specs.Measures.{IsLight, IsMeasured};
-ghost use Rattle.amp_plan.specs.Shares.{can_reach as reached, choice_part, IsShare, IsChosen, CanGoOn};
+ghost use Rattle.amp_plan.specs.SplitLists.{all_listed};
+ghost use Rattle.amp_plan.specs.Shares.{can_reach as reached, choice_part, of_share, IsShare, IsChosen, CanGoOn};
 
 use crate::finding::find_live;
 use crate::measure::{Measure, above_zero, law_excess, per_n};
 use crate::pair::Pair;
 use crate::ranking::Ranking;
 use crate::rest::Rest;
+use crate::split_list::{SplitList, chain_of};
 use crate::visitor::TermVisitor;
 use key_index::KeyIndex;
 
@@ -41,7 +43,7 @@ pub(crate) struct Share {
 
 /// A part that was chosen from the first runs: its measure, the number of ways, and how far its excess can still rise
 /// and fall.
-#[derive(Clone, Copy)]
+#[derive(Clone, Copy, Default)]
 pub(crate) struct Chosen {
     pub(crate) part: Measure,
     pub(crate) ways: u64,
@@ -79,7 +81,7 @@ impl Chosen {
     }
 
     /// The part with one more of the index of a run, of which so many are taken.
-    fn one_more(&self, item: &Measure, count: u8, taken: u8) -> Chosen
+    pub(crate) fn one_more(&self, item: &Measure, count: u8, taken: u8) -> Chosen
         requires part { IsLight self.now.part }
         requires item { IsLight item.now }
         requires taken { taken ≤ count }
@@ -221,28 +223,60 @@ impl Share {
     }
 }
 
+/// Hands over the products of the listed splits whose part has the one excess at which both keys are covered.
+fn walk_listed<const N: usize, V: TermVisitor>(
+    ranking: &Ranking,
+    index: &KeyIndex,
+    share: &Share,
+    list: &SplitList<N>,
+    visitor: &mut V,
+)
+    requires keys { index.now.keys ≡ keys_of ranking.now }
+    requires exact { index.now.exact ≡ true }
+    requires share { IsShare ranking.now share.now }
+    requires one { share.now.low ≡ share.now.high }
+    requires small { unsigned_abs share.now.low ≤ 2 ^ 29 }
+    requires room { HasRoom (tensors_of ranking.now) ranking.now.bound share.now.genus list.now.rest.list.items }
+    requires right { IsMeasured share.now.per_n (share.now.pair.b ∷ list.now.rest.list.items) share.now.right }
+    requires listed { list.now.splits ≡ all_listed share.now.per_n (splits list.now.rest.list.items) }
+    requires allowed { NameAllowed (V.allows visitor.old) (of_share ranking.now share.now list.now.rest.list.items) }
+    ensures { Takes V.allows V.state V.step (of_share ranking.now share.now list.now.rest.list.items) visitor.old visitor.new }
+{
+    let mut left = list.splits.first(chain_of(share.low));
+    while left > 0 {
+        let (chosen, next) = list.splits.at(left);
+        walk_chosen(ranking, index, share, &chosen, visitor);
+        left = next;
+    }
+}
+
 /// Hands over the products of a pair with the genus k on the left, by codes.
-pub(crate) fn walk_share<V: TermVisitor>(
+pub(crate) fn walk_share<const N: usize, V: TermVisitor>(
     ranking: &Ranking,
     index: &KeyIndex,
     genus: u8,
-    rest: &Rest,
+    list: &SplitList<N>,
     pair: &Pair,
     k: u8,
     visitor: &mut V,
 )
     requires keys { index.now.keys ≡ keys_of ranking.now }
     requires exact { index.now.exact ≡ true }
-    requires rest { IsRest (shape_per_n ranking.now.tensors.shape) rest.now }
-    requires room { HasRoom (tensors_of ranking.now) ranking.now.bound genus rest.now.list.items }
+    requires rest { IsRest (shape_per_n ranking.now.tensors.shape) list.now.rest }
+    requires listed { list.now.whole ≡ true → list.now.splits ≡ all_listed (shape_per_n ranking.now.tensors.shape) (splits list.now.rest.list.items) }
+    requires room { HasRoom (tensors_of ranking.now) ranking.now.bound genus list.now.rest.list.items }
     requires a { pair.now.a < ranking.now.tensors.dim }
     requires b { pair.now.b < ranking.now.tensors.dim }
     requires k { k ≤ genus }
-    requires allowed { NameAllowed (V.allows visitor.old) (genus_part ranking.now genus rest.now.list.items pair.now.a pair.now.b pair.now.weight k) }
-    ensures { Takes V.allows V.state V.step (genus_part ranking.now genus rest.now.list.items pair.now.a pair.now.b pair.now.weight k) visitor.old visitor.new }
+    requires allowed { NameAllowed (V.allows visitor.old) (genus_part ranking.now genus list.now.rest.list.items pair.now.a pair.now.b pair.now.weight k) }
+    ensures { Takes V.allows V.state V.step (genus_part ranking.now genus list.now.rest.list.items pair.now.a pair.now.b pair.now.weight k) visitor.old visitor.new }
 {
     ranking.is_small();
-    let share = Share::of(ranking, genus, rest, pair, k);
+    let share = Share::of(ranking, genus, &list.rest, pair, k);
+    if list.whole && share.low == share.high && share.low.unsigned_abs() <= 1 << 29 {
+        walk_listed(ranking, index, &share, list, visitor);
+        return;
+    }
     let chosen = Chosen {
         part: Measure {
             places: 0,
@@ -250,14 +284,14 @@ pub(crate) fn walk_share<V: TermVisitor>(
             code: 0,
         },
         ways: 1,
-        gain: rest.gain,
-        loss: rest.loss,
+        gain: list.rest.gain,
+        loss: list.rest.loss,
     };
     walk_reachable(
         ranking,
         index,
         &share,
-        rest.runs.as_slice(),
+        list.rest.runs.as_slice(),
         &chosen,
         visitor,
     );

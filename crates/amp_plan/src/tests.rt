@@ -2,7 +2,7 @@ ghost use Rattle.std.specs.Prelude.{◌<◌, ◌≤◌, length};
 ghost use Rattle.airy_math.specs.Planned.{IsPlanned};
 ghost use Rattle.amp_plan.specs.Plans.{keys_of, tensors_of};
 
-use crate::{Place, Plan, PlanCause, PlanErr, TermVisitor, walk_terms};
+use crate::{Place, Plan, PlanCause, TermVisitor, walk_terms};
 use airy_index::{Key, Law, Shape};
 use frac128::Frac;
 use sparse_tensor::{PutErr, Tensors};
@@ -172,16 +172,18 @@ fn an_index_is_below_dim(rt: HostRuntime) -> Result<(), Fail> {
     Ok(())
 }
 
+fn is_bound(cause: &PlanCause, bound: u8) -> bool {
+    match cause {
+        PlanCause::Bound { got } => *got == bound,
+        _ => false,
+    }
+}
+
 /// Whether tensors of this dim have no plan up to the bound since it is 0 or above 24, and come back.
 fn is_bound_refused(alloc: Global, tensors: Tensors, bound: u8, dim: u8) -> bool {
     match Plan::make(alloc, tensors, bound) {
-        Err(
-            PlanErr {
-                cause: PlanCause::Bound { got },
-                tensors,
-            },
-        ) => got == bound && tensors.dim() == dim,
-        _ => false,
+        Ok(_) => false,
+        Err(refusal) => is_bound(&refusal.cause, bound) && refusal.tensors.dim() == dim,
     }
 }
 
@@ -194,16 +196,18 @@ fn a_bound_is_from_1_to_24(rt: HostRuntime) -> Result<(), Fail> {
     Ok(())
 }
 
+fn is_level(cause: &PlanCause, level: u8) -> bool {
+    match cause {
+        PlanCause::Cells { level: found } => *found == level,
+        _ => false,
+    }
+}
+
 /// Whether tensors of this dim have no plan since the keys up to that level are too many, and come back.
 fn is_level_refused(alloc: Global, tensors: Tensors, level: u8, dim: u8) -> bool {
     match Plan::make(alloc, tensors, level) {
-        Err(
-            PlanErr {
-                cause: PlanCause::Cells { level: found },
-                tensors,
-            },
-        ) => found == level && tensors.dim() == dim,
-        _ => false,
+        Ok(_) => false,
+        Err(refusal) => is_level(&refusal.cause, level) && refusal.tensors.dim() == dim,
     }
 }
 
@@ -211,6 +215,75 @@ fn is_level_refused(alloc: Global, tensors: Tensors, level: u8, dim: u8) -> bool
 fn a_plan_has_at_most_200_000_keys(rt: HostRuntime) -> Result<(), Fail> {
     let dense = ungraded(rt.alloc(), 32)?;
     assert!(rt; is_level_refused(rt.alloc(), dense, 3, 32));
+    Ok(())
+}
+
+/// Whether the two plans have the same key at a rank, with the same needs and dependents.
+fn is_same_row(left: &Plan, right: &Plan, rank: u32) -> bool {
+    rank < left.len()
+        && rank < right.len()
+        && right.rank_of(&left.key(rank)) == Place::At(rank)
+        && left.needs(rank) == right.needs(rank)
+        && left.dependents(rank) == right.dependents(rank)
+}
+
+fn are_same_rows(left: &Plan, right: &Plan) -> bool {
+    for rank in 0..left.len() {
+        if !is_same_row(left, right, rank) {
+            return false;
+        }
+    }
+    true
+}
+
+/// Whether the plan grows up to the bound to one as the other.
+fn grows_to(alloc: Global, plan: Plan, bound: u8, other: &Plan) -> bool {
+    if plan.bound() >= bound || bound > 24 {
+        return false;
+    }
+    match plan.grow(alloc, bound) {
+        Ok(plan) => plan.len() == other.len()
+            && plan.bound() == bound
+            && are_same_rows(&plan, other),
+        Err(_) => false,
+    }
+}
+
+#[test]
+fn a_plan_grows_to_the_one_of_a_greater_bound(rt: HostRuntime) -> Result<(), Fail> {
+    let large = plan_of_wk(rt.alloc(), 3)?;
+    let small = planned(rt.alloc(), wk(rt.alloc(), 4)?, 1)?;
+    assert!(rt; grows_to(rt.alloc(), small, 3, &large));
+    Ok(())
+}
+
+fn rank_needs_nothing(plan: &Plan, rank: u32) -> bool {
+    rank < plan.len() && plan.needs(rank).is_empty()
+}
+
+/// Whether this is the plan of 32 indices of any shape up to the bound 1.
+fn is_small_one(plan: &Plan) -> bool {
+    plan.bound() == 1
+        && plan.len() == 6016
+        && stands(plan, 1, &[31], Place::At(6015))
+        && rank_needs_nothing(plan, 0)
+}
+
+/// Whether the plan doesn't grow since the keys up to that level are too many, and comes back.
+fn is_growth_refused(alloc: Global, plan: Plan, level: u8) -> bool {
+    if plan.bound() >= level || level > 24 {
+        return false;
+    }
+    match plan.grow(alloc, level) {
+        Ok(_) => false,
+        Err(refusal) => is_level(&refusal.cause, level) && is_small_one(&refusal.plan),
+    }
+}
+
+#[test]
+fn a_plan_that_does_not_grow_comes_back(rt: HostRuntime) -> Result<(), Fail> {
+    let plan = planned(rt.alloc(), ungraded(rt.alloc(), 32)?, 1)?;
+    assert!(rt; is_growth_refused(rt.alloc(), plan, 3));
     Ok(())
 }
 
@@ -222,13 +295,21 @@ fn has_power(plan: &Plan, indices: &[u8], power: u16) -> bool {
     }
 }
 
+fn has_powers(plan: &Plan, power: u16) -> bool {
+    has_power(plan, &[0, 0], power) && has_power(plan, &[2, 2], 0)
+}
+
+/// Whether the keys of tensors, with or without a letter, have their powers of it, where one of them has this one.
+fn has_powers_up_to_2(alloc: Global, letter: bool, power: u16) -> Result<bool, Fail> {
+    let tensors = graded(alloc, 3, letter)?;
+    let plan = planned(alloc, tensors, 2)?;
+    Ok(has_powers(&plan, power))
+}
+
 #[test]
 fn a_key_has_its_power_of_the_letter(rt: HostRuntime) -> Result<(), Fail> {
-    for (letter, power) in [(false, 0), (true, 2)] {
-        let plan = planned(rt.alloc(), graded(rt.alloc(), 3, letter)?, 2)?;
-        assert!(rt; has_power(&plan, &[0, 0], power));
-        assert!(rt; has_power(&plan, &[2, 2], 0));
-    }
+    assert!(rt; has_powers_up_to_2(rt.alloc(), false, 0)?);
+    assert!(rt; has_powers_up_to_2(rt.alloc(), true, 2)?);
     Ok(())
 }
 
@@ -313,6 +394,14 @@ fn planned_with_all_c(alloc: Global, tensors: Tensors, bound: u8) -> Result<Plan
 fn the_walk_meets_the_products_of_an_exact_shape(rt: HostRuntime) -> Result<(), Fail> {
     let plan = plan_of_wk(rt.alloc(), 7)?;
     assert!(rt; products_of_all(&plan) == 677);
+    Ok(())
+}
+
+// Of the lists of splits that are walked over here some have up to 64 splits, some up to 256, and two 270.
+#[test]
+fn the_walk_meets_the_products_with_each_room(rt: HostRuntime) -> Result<(), Fail> {
+    let plan = plan_of_wk(rt.alloc(), 14)?;
+    assert!(rt; products_of_all(&plan) == 185_813);
     Ok(())
 }
 

@@ -1,4 +1,4 @@
-ghost use Rattle.std.specs.Prelude.{◌≡◌, ◌<◌, ◌≤◌, ◌∷◌, ◌++◌, ◌-◌, [], ℕ, length, drop};
+ghost use Rattle.std.specs.Prelude.{◌≡◌, ◌<◌, ◌≤◌, ◌∷◌, ◌++◌, ◌-◌, ◌^◌, [], ℕ, true, length, drop};
 ghost use Rattle.airy_math.specs.Keys.{key_of, insert, remove, ordered, times};
 ghost use Rattle.airy_math.specs.Shapes.{per_n as shape_per_n};
 ghost use Rattle.airy_math.specs.Terms.{terms};
@@ -7,7 +7,9 @@ ghost use Rattle.airy_index.specs.SplitValues.{split_value};
 ghost use Rattle.amp_plan.specs.Plans.{tensors_of, rank_at};
 ghost use Rattle.amp_plan.specs.Ranked.{NameAllowed, Takes, all_ranked};
 ghost use Rattle.amp_plan.specs.Measures.{IsMeasured};
+ghost use Rattle.airy_math.specs.Splits.{splits};
 ghost use Rattle.amp_plan.specs.Rests.{IsRest};
+ghost use Rattle.amp_plan.specs.SplitLists.{all_listed};
 ghost use Rattle.amp_plan.specs.Walk.{HasRoom, IsPartOf, live_rank, once_part, run_part, b_part, joined_part, split_part, genus_part, product_part, entry_part, c_part};
 
 use crate::finding::{rank_beside, rank_joined, rank_with};
@@ -16,6 +18,7 @@ use crate::pair::{Pair, weight_of};
 use crate::ranking::Ranking;
 use crate::rest::Rest;
 use crate::share::walk_share;
+use crate::split_list::{SplitList, splits_to_list};
 use crate::visitor::TermVisitor;
 use airy_index::{Key, Split, Splits};
 use arrayvec::ArrayVec;
@@ -55,7 +58,7 @@ pub(crate) fn walk_ranked<V: TermVisitor>(ranking: &Ranking, key: &Key, pivot: u
         _ => {
             let rest = Rest::of(ranking, rest);
             walk_b(ranking, genus, pivot, &rest, visitor);
-            walk_c(ranking, genus, pivot, &rest, visitor);
+            walk_c(ranking, genus, pivot, rest, visitor);
         }
     }
 }
@@ -119,41 +122,67 @@ fn walk_once<V: TermVisitor>(
     }
 }
 
-/// Hands over the C terms.
-fn walk_c<V: TermVisitor>(ranking: &Ranking, genus: u8, pivot: u8, rest: &Rest, visitor: &mut V)
-    requires rest { IsRest (shape_per_n ranking.now.tensors.shape) rest.now }
-    requires room { HasRoom (tensors_of ranking.now) ranking.now.bound genus rest.now.list.items }
-    requires allowed { NameAllowed (V.allows visitor.old) (c_part ranking.now pivot genus rest.now.list.items) }
-    ensures { Takes V.allows V.state V.step (c_part ranking.now pivot genus rest.now.list.items) visitor.old visitor.new }
+/// Hands over the C terms, with as much room for a list of splits as they need.
+fn walk_c<V: TermVisitor>(ranking: &Ranking, genus: u8, pivot: u8, rest: Rest, visitor: &mut V)
+    requires rest { IsRest (shape_per_n ranking.now.tensors.shape) rest }
+    requires room { HasRoom (tensors_of ranking.now) ranking.now.bound genus rest.list.items }
+    requires allowed { NameAllowed (V.allows visitor.old) (c_part ranking.now pivot genus rest.list.items) }
+    ensures { Takes V.allows V.state V.step (c_part ranking.now pivot genus rest.list.items) visitor.old visitor.new }
 {
+    match splits_to_list(ranking, pivot, &rest) {
+        1..=64 => walk_in_room::<64, V>(ranking, genus, pivot, rest, visitor),
+        65..=256 => walk_in_room::<256, V>(ranking, genus, pivot, rest, visitor),
+        257..=2048 => walk_in_room::<2048, V>(ranking, genus, pivot, rest, visitor),
+        _ => walk_in_room::<0, V>(ranking, genus, pivot, rest, visitor),
+    }
+}
+
+/// Hands over the C terms, with room for that many splits. Its room stands on the stack only while it runs.
+#[inline(never)]
+fn walk_in_room<const N: usize, V: TermVisitor>(
+    ranking: &Ranking,
+    genus: u8,
+    pivot: u8,
+    rest: Rest,
+    visitor: &mut V,
+)
+    requires rest { IsRest (shape_per_n ranking.now.tensors.shape) rest }
+    requires room { HasRoom (tensors_of ranking.now) ranking.now.bound genus rest.list.items }
+    requires splits { N < 2 ^ 16 }
+    requires allowed { NameAllowed (V.allows visitor.old) (c_part ranking.now pivot genus rest.list.items) }
+    ensures { Takes V.allows V.state V.step (c_part ranking.now pivot genus rest.list.items) visitor.old visitor.new }
+{
+    ranking.is_small();
+    let list = SplitList::<N>::of(ranking, rest);
     let row = ranking.tensors().row_c(pivot);
     for entry in row {
-        walk_entry(ranking, genus, rest, *entry, visitor);
+        walk_entry(ranking, genus, &list, *entry, visitor);
     }
 }
 
 /// Hands over the C terms of an entry.
-fn walk_entry<V: TermVisitor>(
+fn walk_entry<const N: usize, V: TermVisitor>(
     ranking: &Ranking,
     genus: u8,
-    rest: &Rest,
+    list: &SplitList<N>,
     entry: (u8, u8, Frac),
     visitor: &mut V,
 )
-    requires rest { IsRest (shape_per_n ranking.now.tensors.shape) rest.now }
-    requires room { HasRoom (tensors_of ranking.now) ranking.now.bound genus rest.now.list.items }
+    requires rest { IsRest (shape_per_n ranking.now.tensors.shape) list.now.rest }
+    requires listed { list.now.whole ≡ true → list.now.splits ≡ all_listed (shape_per_n ranking.now.tensors.shape) (splits list.now.rest.list.items) }
+    requires room { HasRoom (tensors_of ranking.now) ranking.now.bound genus list.now.rest.list.items }
     requires a { entry.0 < ranking.now.tensors.dim }
     requires b { entry.1 < ranking.now.tensors.dim }
-    requires allowed { NameAllowed (V.allows visitor.old) (entry_part ranking.now genus rest.now.list.items entry) }
-    ensures { Takes V.allows V.state V.step (entry_part ranking.now genus rest.now.list.items entry) visitor.old visitor.new }
+    requires allowed { NameAllowed (V.allows visitor.old) (entry_part ranking.now genus list.now.rest.list.items entry) }
+    ensures { Takes V.allows V.state V.step (entry_part ranking.now genus list.now.rest.list.items entry) visitor.old visitor.new }
 {
     let pair = Pair {
         a: entry.0,
         b: entry.1,
         weight: weight_of(entry.0, entry.1, entry.2),
     };
-    walk_joined(ranking, genus, rest, &pair, visitor);
-    walk_products(ranking, genus, rest, &pair, visitor);
+    walk_joined(ranking, genus, &list.rest, &pair, visitor);
+    walk_products(ranking, genus, list, &pair, visitor);
 }
 
 /// Hands over the joined term of a pair, where there is one.
@@ -180,47 +209,49 @@ fn walk_joined<V: TermVisitor>(
 }
 
 /// Hands over the products of a pair.
-fn walk_products<V: TermVisitor>(
+fn walk_products<const N: usize, V: TermVisitor>(
     ranking: &Ranking,
     genus: u8,
-    rest: &Rest,
+    list: &SplitList<N>,
     pair: &Pair,
     visitor: &mut V,
 )
-    requires rest { IsRest (shape_per_n ranking.now.tensors.shape) rest.now }
-    requires room { HasRoom (tensors_of ranking.now) ranking.now.bound genus rest.now.list.items }
+    requires rest { IsRest (shape_per_n ranking.now.tensors.shape) list.now.rest }
+    requires listed { list.now.whole ≡ true → list.now.splits ≡ all_listed (shape_per_n ranking.now.tensors.shape) (splits list.now.rest.list.items) }
+    requires room { HasRoom (tensors_of ranking.now) ranking.now.bound genus list.now.rest.list.items }
     requires a { pair.now.a < ranking.now.tensors.dim }
     requires b { pair.now.b < ranking.now.tensors.dim }
-    requires allowed { NameAllowed (V.allows visitor.old) (product_part ranking.now genus rest.now.list.items pair.now.a pair.now.b pair.now.weight) }
-    ensures { Takes V.allows V.state V.step (product_part ranking.now genus rest.now.list.items pair.now.a pair.now.b pair.now.weight) visitor.old visitor.new }
+    requires allowed { NameAllowed (V.allows visitor.old) (product_part ranking.now genus list.now.rest.list.items pair.now.a pair.now.b pair.now.weight) }
+    ensures { Takes V.allows V.state V.step (product_part ranking.now genus list.now.rest.list.items pair.now.a pair.now.b pair.now.weight) visitor.old visitor.new }
 {
     for k in 0..=genus {
-        walk_genus(ranking, genus, rest, pair, k, visitor);
+        walk_genus(ranking, genus, list, pair, k, visitor);
     }
 }
 
 /// Hands over the products of a pair with the genus k on the left: by codes, where these tell all keys apart.
-fn walk_genus<V: TermVisitor>(
+fn walk_genus<const N: usize, V: TermVisitor>(
     ranking: &Ranking,
     genus: u8,
-    rest: &Rest,
+    list: &SplitList<N>,
     pair: &Pair,
     k: u8,
     visitor: &mut V,
 )
-    requires rest { IsRest (shape_per_n ranking.now.tensors.shape) rest.now }
-    requires room { HasRoom (tensors_of ranking.now) ranking.now.bound genus rest.now.list.items }
+    requires rest { IsRest (shape_per_n ranking.now.tensors.shape) list.now.rest }
+    requires listed { list.now.whole ≡ true → list.now.splits ≡ all_listed (shape_per_n ranking.now.tensors.shape) (splits list.now.rest.list.items) }
+    requires room { HasRoom (tensors_of ranking.now) ranking.now.bound genus list.now.rest.list.items }
     requires a { pair.now.a < ranking.now.tensors.dim }
     requires b { pair.now.b < ranking.now.tensors.dim }
     requires k { k ≤ genus }
-    requires allowed { NameAllowed (V.allows visitor.old) (genus_part ranking.now genus rest.now.list.items pair.now.a pair.now.b pair.now.weight k) }
-    ensures { Takes V.allows V.state V.step (genus_part ranking.now genus rest.now.list.items pair.now.a pair.now.b pair.now.weight k) visitor.old visitor.new }
+    requires allowed { NameAllowed (V.allows visitor.old) (genus_part ranking.now genus list.now.rest.list.items pair.now.a pair.now.b pair.now.weight k) }
+    ensures { Takes V.allows V.state V.step (genus_part ranking.now genus list.now.rest.list.items pair.now.a pair.now.b pair.now.weight k) visitor.old visitor.new }
 {
     let index = ranking.index();
     if index.is_exact() {
-        walk_share(ranking, index, genus, rest, pair, k, visitor);
+        walk_share(ranking, index, genus, list, pair, k, visitor);
     } else {
-        walk_splits(ranking, genus, rest.list.as_slice(), pair, k, visitor);
+        walk_splits(ranking, genus, list.rest.list.as_slice(), pair, k, visitor);
     }
 }
 

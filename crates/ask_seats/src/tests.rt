@@ -1,67 +1,88 @@
-ghost use Rattle.std.specs.Prelude.{◌≤◌, IfOk};
+ghost use Rattle.std.specs.Prelude.{◌≤◌, ◌<◌, length};
+ghost use Rattle.airy_math.specs.Keys.{euler};
+ghost use Rattle.cell_words.specs.LevelSeats.{IsAsker, IsFiller};
 ghost use Rattle.ask_seats.specs.Asks.{HasOneFinish};
 
 use crate::{Answer, Asker, Line, session};
 use airy_index::{Key, Law, Shape};
 use airy_io::{Failed, MemSink, Sink};
 use amp_plan::Plan;
-use cell_words::{Cells, Frontier, level_alone};
+use cell_words::{Cells, FillSeat, Frontier, LevelSeat, level_alone};
 use fill_crew::{Gate, OpenGate, StopAfter};
 use frac128::Frac;
-use sparse_tensor::Tensors;
+use sparse_tensor::{PutErr, Tensors};
 use std::alloc::Global;
 use std::sync::atomic::{AtomicU64, Ordering};
-use std::test::Fail;
 use std::thread::Threads;
 
-/// What a call made.
-fn made<T, E: Drop>(answer: Result<T, E>) -> Result<T, Fail> {
-    match answer {
-        Ok(it) => Ok(it),
-        Err(_) => Err(Fail::from("no answer")),
-    }
+/// The fraction num / den, or 0 where it is none.
+fn fraction(num: i128, den: i128) -> Frac {
+    Frac::new(num, den).unwrap_or(Frac::whole(0))
 }
 
 /// The tensors of Witten and Kontsevich with so many indices.
 #[tactic(auto, unfolding(sparse_tensor::specs::Grades::IsSmallLaw))]
-fn wk(alloc: Global, dim: u8) -> Result<Tensors, Fail>
-    requires { (2 ≤ dim) × (dim ≤ 5) }
+fn wk(alloc: Global, dim: u8) -> Option<Tensors>
+    requires some { 0 < dim }
+    requires most { dim ≤ 72 }
 {
     let shape = Shape::Exact(Law { per_g: 3, per_n: 1 });
-    let mut t = made(Tensors::empty(alloc, dim, shape, false))?;
-    made(t.put_a(0, 0, 0, Frac::whole(1)))?;
-    made(t.put_d(1, made(Frac::new(1, 8))?))?;
+    let mut t = Tensors::empty(alloc, dim, shape, false).ok()?;
+    put_wk(&mut t, dim).ok()?;
+    Some(t)
+}
+
+fn put_wk(t: &mut Tensors, dim: u8) -> Result<(), PutErr>
+    requires { dim ≤ 72 }
+{
+    t.put_a(0, 0, 0, Frac::whole(1))?;
+    t.put_d(1, fraction(1, 8))?;
     for i in 0..dim {
         for j in 0..dim {
-            if i + j >= 1 && i + j <= dim {
-                made(t.put_b(i, j, i + j - 1, Frac::whole(2 * i64::from(j) + 1)))?;
-            }
-            if i >= 2 * j + 2 {
-                made(t.put_c(i, j, i - j - 2, Frac::whole(1)))?;
-            }
+            put_with(t, i, j, dim)?;
         }
     }
-    Ok(t)
+    Ok(())
+}
+
+/// The entries of B whose first two indices are i and j, and those of C whose last two are.
+fn put_with(t: &mut Tensors, i: u8, j: u8, dim: u8) -> Result<(), PutErr>
+    requires i { i < 72 }
+    requires j { j < 72 }
+{
+    if i + j >= 1 && i + j <= dim {
+        t.put_b(i, j, i + j - 1, Frac::whole(2 * i64::from(j) + 1))?;
+    }
+    if i <= j && i + j + 2 < dim {
+        t.put_c(i + j + 2, i, j, Frac::whole(1))?;
+    }
+    Ok(())
 }
 
 /// Their plan up to a bound.
-fn plan_of(alloc: Global, bound: u8) -> Result<Plan, Fail>
+fn wk_plan(alloc: Global, bound: u8) -> Option<Plan>
     requires { (1 ≤ bound) × (bound ≤ 3) }
 {
-    let t = wk(alloc, bound + (bound + 1) / 2)?;
-    made(Plan::make(alloc, t, bound))
+    Plan::make(alloc, wk(alloc, bound + (bound + 1) / 2)?, bound).ok()
 }
 
-fn key(g: u8, idx: &[u8]) -> Result<Key, Fail> {
-    made(Key::of(g, idx))
+fn key(g: u8, idx: &[u8]) -> Key
+    requires { (0 < length idx.now) × (length idx.now ≤ 26) × (0 < euler g (length idx.now)) }
+{
+    let Ok(key) = Key::of(g, idx) else {
+        unreachable!()
+    };
+    key
 }
 
 /// A sink with room that fails at one call.
-fn sink_of(alloc: Global, fail_at: u32) -> Result<MemSink, Fail> {
-    Ok(MemSink {
-        space: vec![in alloc; 0u8; 200]?,
+fn sink_of(alloc: Global, fail_at: u32) -> Option<MemSink> {
+    let space = vec![in alloc; 0u8; 200].ok()?;
+    let fail_at = vec![in alloc; fail_at].ok()?;
+    Some(MemSink {
+        space,
         taken: 0,
-        fail_at: vec![in alloc; fail_at]?,
+        fail_at,
         calls: 0,
         faults: 0,
     })
@@ -70,185 +91,249 @@ fn sink_of(alloc: Global, fail_at: u32) -> Result<MemSink, Fail> {
 const NEVER: u32 = 1_000;
 
 /// Whether a session writes this text into a sink that fails at one call, and ends well exactly where that call didn't come.
-fn writes<R: Threads + Sync, G: Gate + Sync>(
+fn writes_into<R: Threads + Sync, G: Gate + Sync>(
     rt: &R,
     alloc: Global,
     plan: Plan,
     crew: u8,
     lines: &[Line],
     gate: &G,
-    fail_at: u32,
+    out: &mut MemSink,
     text: &[u8],
-) -> Result<bool, Fail>
+) -> bool
     requires crew { crew ≤ 16 }
     requires finish { HasOneFinish lines.now }
 {
-    let mut out = sink_of(alloc, fail_at)?;
-    let ok = session(rt, alloc, plan, crew, lines, gate, &mut out).is_ok();
-    Ok(ok == (out.faults == 0) && &out.space[..out.taken] == text)
+    let ok = session(rt, alloc, plan, crew, lines, gate, out).is_ok();
+    ok == (out.faults == 0) && &out.space[..out.taken] == text
+}
+
+fn writes<R: Threads + Sync, G: Gate + Sync>(
+    rt: &R,
+    alloc: Global,
+    plan: Option<Plan>,
+    crew: u8,
+    lines: &[Line],
+    gate: &G,
+    fail_at: u32,
+    text: &[u8],
+) -> bool
+    requires crew { crew ≤ 16 }
+    requires finish { HasOneFinish lines.now }
+{
+    let Some(plan) = plan else {
+        return false;
+    };
+    let Some(mut out) = sink_of(alloc, fail_at) else {
+        return false;
+    };
+    writes_into(rt, alloc, plan, crew, lines, gate, &mut out, text)
 }
 
 /// An ask for the key 0,3 [0 0 0], `finish`, and another ask.
-#[tactic(auto, unfolding(crate::specs::Asks::HasOneFinish, crate::specs::Asks::AreAsks))]
-fn around_finish(g: u8, idx: &[u8]) -> Result<[Line; 3], Fail>
-    ensures { IfOk result (λ lines. HasOneFinish lines) }
+#[tactic(auto, unfolding(crate::specs::Asks::HasOneFinish, crate::specs::Asks::AreAsks, airy_math::specs::Keys::euler))]
+fn around_finish(g: u8, idx: &[u8]) -> [Line; 3]
+    requires { (0 < length idx.now) × (length idx.now ≤ 26) × (0 < euler g (length idx.now)) }
+    ensures { HasOneFinish result }
 {
-    Ok([
-        Line::Ask(key(0, &[0, 0, 0])?),
+    [
+        Line::Ask(key(0, &[0, 0, 0])),
         Line::Finish,
-        Line::Ask(key(g, idx)?),
-    ])
+        Line::Ask(key(g, idx)),
+    ]
+}
+
+/// Whether nothing is filled before `finish` without workers, and by one whose gate lets it fill nothing.
+#[tactic(auto, unfolding(airy_math::specs::Keys::euler))]
+fn wait_for_finish<R: Threads + Sync>(rt: &R, alloc: Global) -> bool {
+    let lines = around_finish(0, &[0, 0, 0]);
+    let text = b"not yet\n1\n";
+    let shut = StopAfter { cells: 0 };
+    writes(
+        rt,
+        alloc,
+        wk_plan(alloc, 1),
+        0,
+        &lines,
+        &OpenGate,
+        NEVER,
+        text,
+    ) && writes(rt, alloc, wk_plan(alloc, 1), 1, &lines, &shut, NEVER, text)
 }
 
 #[test]
-fn alone_nothing_is_filled_before_finish(rt: HostRuntime) -> Result<(), Fail> {
-    let alloc = rt.alloc();
-    let lines = around_finish(0, &[0, 0, 0])?;
-    let plan = plan_of(alloc, 1)?;
-    assert!(rt;
-        writes(
-            &rt,
-            alloc,
-            plan,
-            0,
-            &lines,
-            &OpenGate,
-            NEVER,
-            b"not yet\n1\n"
-        )?
-    );
-    // The one worker's gate lets it fill nothing.
-    let plan = plan_of(alloc, 1)?;
-    let shut = StopAfter { cells: 0 };
-    assert!(rt; writes(&rt, alloc, plan, 1, &lines, &shut, NEVER, b"not yet\n1\n")?);
-    Ok(())
+fn alone_nothing_is_filled_before_finish(rt: HostRuntime) {
+    assert!(rt; wait_for_finish(&rt, rt.alloc()));
 }
 
 /// `finish`, and then keys of the plan up to 3, of which only the first is planned.
-#[tactic(auto, unfolding(crate::specs::Asks::HasOneFinish, crate::specs::Asks::AreAsks))]
-fn behind_finish() -> Result<[Line; 5], Fail>
-    ensures { IfOk result (λ lines. HasOneFinish lines) }
+#[tactic(auto, unfolding(crate::specs::Asks::HasOneFinish, crate::specs::Asks::AreAsks, airy_math::specs::Keys::euler))]
+fn behind_finish() -> [Line; 5]
+    ensures { HasOneFinish result }
 {
-    Ok([
+    [
         Line::Finish,
-        Line::Ask(key(0, &[1, 0, 0, 0])?),
-        Line::Ask(key(1, &[5])?),
-        Line::Ask(key(3, &[7])?),
-        Line::Ask(key(0, &[0, 0, 0, 0])?),
-    ])
+        Line::Ask(key(0, &[1, 0, 0, 0])),
+        Line::Ask(key(1, &[5])),
+        Line::Ask(key(3, &[7])),
+        Line::Ask(key(0, &[0, 0, 0, 0])),
+    ]
 }
 
-#[test]
-fn every_crew_and_gate(rt: HostRuntime) -> Result<(), Fail> {
-    let alloc = rt.alloc();
-    let lines = behind_finish()?;
-    for crew in [0u8, 1, 2, 16] {
-        for cells in [0u32, 1, 7] {
-            let plan = plan_of(alloc, 3)?;
-            let gate = StopAfter { cells };
-            assert!(rt;
-                writes(
-                    &rt,
-                    alloc,
-                    plan,
-                    crew,
-                    &lines,
-                    &gate,
-                    NEVER,
-                    b"3\nzero\nbeyond\nzero\n"
-                )?
-            );
+const BEHIND_FINISH: &[u8] = b"3\nzero\nbeyond\nzero\n";
+
+/// Whether so many workers, stopped after some cells, leave these replies.
+fn writes_all<R: Threads + Sync>(rt: &R, alloc: Global, crew: u8) -> bool
+    requires { crew ≤ 16 }
+{
+    let lines = behind_finish();
+    for cells in [0u32, 1, 7] {
+        let gate = StopAfter { cells };
+        if !writes(
+            rt,
+            alloc,
+            wk_plan(alloc, 3),
+            crew,
+            &lines,
+            &gate,
+            NEVER,
+            BEHIND_FINISH,
+        ) {
+            return false;
         }
     }
-    Ok(())
+    true
 }
 
 #[test]
-fn a_sink_that_fails_at_each_call(rt: HostRuntime) -> Result<(), Fail> {
-    let alloc = rt.alloc();
-    let lines = behind_finish()?;
-    let text = b"3\nzero\nbeyond\nzero\n";
-    for (call, written) in [(0u32, 0usize), (1, 2), (2, 7), (3, 14), (4, 19)] {
-        let plan = plan_of(alloc, 3)?;
-        assert!(rt;
-            writes(
-                &rt,
-                alloc,
-                plan,
-                2,
-                &lines,
-                &OpenGate,
-                call,
-                &text[..written]
-            )?
-        );
+fn every_crew_and_gate(rt: HostRuntime) {
+    for crew in [0u8, 1, 2, 16] {
+        assert!(rt; writes_all(&rt, rt.alloc(), crew));
     }
-    Ok(())
+}
+
+/// Whether a sink that fails at each call has a prefix of these replies.
+fn cut_at_each_call<R: Threads + Sync>(rt: &R, alloc: Global) -> bool {
+    let lines = behind_finish();
+    for (call, text) in [
+        (0u32, b"".as_slice()),
+        (1, b"3\n".as_slice()),
+        (2, b"3\nzero\n".as_slice()),
+        (3, b"3\nzero\nbeyond\n".as_slice()),
+        (4, BEHIND_FINISH),
+    ] {
+        if !writes(
+            rt,
+            alloc,
+            wk_plan(alloc, 3),
+            2,
+            &lines,
+            &OpenGate,
+            call,
+            text,
+        ) {
+            return false;
+        }
+    }
+    true
+}
+
+#[test]
+fn a_sink_that_fails_at_each_call(rt: HostRuntime) {
+    assert!(rt; cut_at_each_call(&rt, rt.alloc()));
 }
 
 /// One index, `A = 2^126` and `B = 1`.
 #[tactic(auto, unfolding(sparse_tensor::specs::Grades::IsSmallLaw))]
-fn large(alloc: Global) -> Result<Tensors, Fail> {
-    let mut t = made(Tensors::empty(alloc, 1, Shape::All, false))?;
-    made(t.put_a(0, 0, 0, made(Frac::new(1 << 126, 1))?))?;
-    made(t.put_b(0, 0, 0, Frac::whole(1)))?;
-    Ok(t)
+fn large(alloc: Global) -> Option<Tensors> {
+    let mut t = Tensors::empty(alloc, 1, Shape::All, false).ok()?;
+    t.put_a(0, 0, 0, fraction(1 << 126, 1)).ok()?;
+    t.put_b(0, 0, 0, Frac::whole(1)).ok()?;
+    Some(t)
+}
+
+fn large_plan(alloc: Global) -> Option<Plan> {
+    Plan::make(alloc, large(alloc)?, 3).ok()
 }
 
 /// `finish`, and then keys of one index.
-#[tactic(auto, unfolding(crate::specs::Asks::HasOneFinish, crate::specs::Asks::AreAsks))]
-fn behind_large_sums() -> Result<[Line; 6], Fail>
-    ensures { IfOk result (λ lines. HasOneFinish lines) }
+#[tactic(auto, unfolding(crate::specs::Asks::HasOneFinish, crate::specs::Asks::AreAsks, airy_math::specs::Keys::euler))]
+fn behind_large_sums() -> [Line; 6]
+    ensures { HasOneFinish result }
 {
-    Ok([
+    [
         Line::Finish,
-        Line::Ask(key(0, &[0, 0, 0])?),
-        Line::Ask(key(0, &[0, 0, 0, 0])?),
-        Line::Ask(key(0, &[0, 0, 0, 0, 0])?),
-        Line::Ask(key(1, &[0, 0, 0])?),
-        Line::Ask(key(0, &[0, 0, 1])?),
-    ])
+        Line::Ask(key(0, &[0, 0, 0])),
+        Line::Ask(key(0, &[0, 0, 0, 0])),
+        Line::Ask(key(0, &[0, 0, 0, 0, 0])),
+        Line::Ask(key(1, &[0, 0, 0])),
+        Line::Ask(key(0, &[0, 0, 1])),
+    ]
+}
+
+const LARGE_SUMS: &[u8] =
+    b"85070591730234615865843651857942052864\nover\nrests on 0,4 [0 0 0 0]\n0\nno such index\n";
+
+fn writes_large_sums<R: Threads + Sync>(rt: &R, alloc: Global) -> bool {
+    let lines = behind_large_sums();
+    writes(
+        rt,
+        alloc,
+        large_plan(alloc),
+        2,
+        &lines,
+        &OpenGate,
+        NEVER,
+        LARGE_SUMS,
+    )
 }
 
 #[test]
-fn a_sum_that_leaves_the_range(rt: HostRuntime) -> Result<(), Fail> {
-    let alloc = rt.alloc();
-    let lines = behind_large_sums()?;
-    let plan = made(Plan::make(alloc, large(alloc)?, 3))?;
-    let text =
-        b"85070591730234615865843651857942052864\nover\nrests on 0,4 [0 0 0 0]\n0\nno such index\n";
-    assert!(rt; writes(&rt, alloc, plan, 2, &lines, &OpenGate, NEVER, text)?);
-    Ok(())
+fn a_sum_that_leaves_the_range(rt: HostRuntime) {
+    assert!(rt; writes_large_sums(&rt, rt.alloc()));
 }
 
-/// One index, and a shape that covers no key.
+/// A plan without cells: one index, and a shape that covers no key.
 #[tactic(auto, unfolding(sparse_tensor::specs::Grades::IsSmallLaw))]
-fn bare(alloc: Global) -> Result<Tensors, Fail> {
+fn bare_plan(alloc: Global) -> Option<Plan> {
     let shape = Shape::Exact(Law { per_g: 0, per_n: 1 });
-    made(Tensors::empty(alloc, 1, shape, false))
+    let t = Tensors::empty(alloc, 1, shape, false).ok()?;
+    let plan = Plan::make(alloc, t, 2).ok()?;
+    if plan.len() > 0 {
+        return None;
+    }
+    Some(plan)
+}
+
+/// Whether each reply over it is `zero`, without workers and with two.
+#[tactic(auto, unfolding(airy_math::specs::Keys::euler))]
+fn writes_zeros<R: Threads + Sync>(rt: &R, alloc: Global) -> bool {
+    let lines = around_finish(1, &[0]);
+    let text = b"zero\nzero\n";
+    writes(
+        rt,
+        alloc,
+        bare_plan(alloc),
+        0,
+        &lines,
+        &OpenGate,
+        NEVER,
+        text,
+    ) && writes(
+        rt,
+        alloc,
+        bare_plan(alloc),
+        2,
+        &lines,
+        &OpenGate,
+        NEVER,
+        text,
+    )
 }
 
 #[test]
-fn a_plan_without_cells(rt: HostRuntime) -> Result<(), Fail> {
-    let alloc = rt.alloc();
-    let lines = around_finish(1, &[0])?;
-    for crew in [0u8, 2] {
-        let plan = made(Plan::make(alloc, bare(alloc)?, 2))?;
-        assert!(rt; plan.len() == 0);
-        assert!(rt;
-            writes(
-                &rt,
-                alloc,
-                plan,
-                crew,
-                &lines,
-                &OpenGate,
-                NEVER,
-                b"zero\nzero\n"
-            )?
-        );
-    }
-    Ok(())
+fn a_plan_without_cells(rt: HostRuntime) {
+    assert!(rt; writes_zeros(&rt, rt.alloc()));
 }
 
 /// Waits for so many turns at most until the flag is raised.
@@ -320,41 +405,57 @@ fn unfilled_in(text: &[u8]) -> u32 {
 }
 
 /// A key, and then all keys of the plan up to 2.
-#[tactic(auto, unfolding(crate::specs::Asks::HasOneFinish, crate::specs::Asks::AreAsks))]
-fn all_planned() -> Result<[Line; 6], Fail>
-    ensures { IfOk result (λ lines. HasOneFinish lines) }
+#[tactic(auto, unfolding(crate::specs::Asks::HasOneFinish, crate::specs::Asks::AreAsks, airy_math::specs::Keys::euler))]
+fn all_planned() -> [Line; 6]
+    ensures { HasOneFinish result }
 {
-    Ok([
-        Line::Ask(key(0, &[0, 0, 0])?),
-        Line::Ask(key(0, &[0, 0, 0])?),
-        Line::Ask(key(1, &[1])?),
-        Line::Ask(key(0, &[0, 0, 0, 1])?),
-        Line::Ask(key(1, &[0, 2])?),
-        Line::Ask(key(1, &[1, 1])?),
-    ])
+    [
+        Line::Ask(key(0, &[0, 0, 0])),
+        Line::Ask(key(0, &[0, 0, 0])),
+        Line::Ask(key(1, &[1])),
+        Line::Ask(key(0, &[0, 0, 0, 1])),
+        Line::Ask(key(1, &[0, 2])),
+        Line::Ask(key(1, &[1, 1])),
+    ]
+}
+
+/// Whether the first reply is `not yet`, and one of the others at most.
+fn is_while_filled(text: &[u8]) -> bool {
+    let unfilled = unfilled_in(text);
+    text.starts_with(b"not yet\n") && (unfilled == 1 || unfilled == 2)
+}
+
+/// Whether a session with one worker answers while the gate and the sink hold each other.
+fn answers_while_filled<R: Threads + Sync>(
+    rt: &R,
+    alloc: Global,
+    flags: &Flags,
+    plan: Plan,
+    out: &mut HeldSink<'_>,
+) -> bool {
+    let gate = HeldGate { flags };
+    session(rt, alloc, plan, 1, &all_planned(), &gate, out).is_ok()
+        && flags.late.load(Ordering::SeqCst) == 0
+        && is_while_filled(&out.inner.space[..out.inner.taken])
+}
+
+fn is_asked_while_filled<R: Threads + Sync>(rt: &R, alloc: Global, flags: &Flags) -> Option<bool> {
+    let plan = wk_plan(alloc, 2)?;
+    let mut out = HeldSink {
+        flags,
+        inner: sink_of(alloc, NEVER)?,
+    };
+    Some(answers_while_filled(rt, alloc, flags, plan, &mut out))
 }
 
 #[test]
-fn asked_while_filled(rt: HostRuntime) -> Result<(), Fail> {
-    let alloc = rt.alloc();
-    let lines = all_planned()?;
+fn asked_while_filled(rt: HostRuntime) {
     let flags = Flags {
         begun: AtomicU64::new(0),
         filled: AtomicU64::new(0),
         late: AtomicU64::new(0),
     };
-    let gate = HeldGate { flags: &flags };
-    let mut out = HeldSink {
-        flags: &flags,
-        inner: sink_of(alloc, NEVER)?,
-    };
-    let plan = plan_of(alloc, 2)?;
-    let ok = session(&rt, alloc, plan, 1, &lines, &gate, &mut out).is_ok();
-    assert!(rt; ok && flags.late.load(Ordering::SeqCst) == 0);
-    let text = &out.inner.space[..out.inner.taken];
-    let unfilled = unfilled_in(text);
-    assert!(rt; text.starts_with(b"not yet\n") && (unfilled == 1 || unfilled == 2));
-    Ok(())
+    assert!(rt; is_asked_while_filled(&rt, rt.alloc(), &flags) == Some(true));
 }
 
 /// Whether an answer has this line.
@@ -362,25 +463,43 @@ fn is_line(answer: &Answer, text: &[u8]) -> bool {
     answer.line().bytes() == text
 }
 
-#[test]
-fn a_level_published_between_two_asks(rt: HostRuntime) -> Result<(), Fail> {
-    let alloc = rt.alloc();
-    let plan = plan_of(alloc, 2)?;
+/// Whether an asker is told a key of the first level, and not yet one of the second.
+#[tactic(auto, unfolding(airy_math::specs::Keys::euler))]
+fn is_told_the_first(asker: &mut Asker<'_, Frontier>) -> bool
+    requires { IsAsker asker.old.board.now asker.old.seat }
+{
+    is_line(&asker.ask(&key(0, &[0, 0, 0])), b"1\n")
+        && matches!(asker.ask(&key(1, &[1, 1])), Answer::NotYet { word: 1 })
+}
+
+/// Whether a key of the first level is answered behind that level's publication alone.
+#[tactic(auto, unfolding(airy_math::specs::Keys::euler))]
+fn answers_by_level(board: &Frontier, filler: &mut FillSeat, seat: LevelSeat) -> bool
+    requires filler { IsFiller board.now filler.old }
+    requires seat { IsAsker board.now seat }
+{
+    let mut asker = Asker::of(board, seat);
+    let waits = matches!(asker.ask(&key(0, &[0, 0, 0])), Answer::NotYet { word: 0 });
+    if filler.published() < board.plan().bound() {
+        level_alone(board, filler);
+    }
+    let told = is_told_the_first(&mut asker);
+    let _seat = asker.into_seat();
+    waits && told
+}
+
+fn publishes_between_asks(alloc: Global) -> Option<bool> {
+    let plan = wk_plan(alloc, 2)?;
     let Ok((board, mut filler, mut seats)) = Frontier::make(alloc, plan, 1) else {
-        return Err(Fail::from("board"));
+        return None;
     };
     let Some(seat) = seats.pop() else {
-        return Err(Fail::from("seat"));
+        unreachable!()
     };
-    let first = key(0, &[0, 0, 0])?;
-    let later = key(1, &[1, 1])?;
-    let mut asker = Asker::of(&board, seat);
-    assert!(rt; matches!(asker.ask(&first), Answer::NotYet { word: 0 }));
-    if filler.published() < board.plan().bound() {
-        level_alone(&board, &mut filler);
-    }
-    assert!(rt; is_line(&asker.ask(&first), b"1\n"));
-    assert!(rt; matches!(asker.ask(&later), Answer::NotYet { word: 1 }));
-    let _seat = asker.into_seat();
-    Ok(())
+    Some(answers_by_level(&board, &mut filler, seat))
+}
+
+#[test]
+fn a_level_published_between_two_asks(rt: HostRuntime) {
+    assert!(rt; publishes_between_asks(rt.alloc()) == Some(true));
 }

@@ -11,7 +11,7 @@ use Rattle.bulk_tensors.specs.declared.slots.Slot.{Slot}
 use Rattle.bulk_tensors.specs.declared.slots.Slot.TheVariants.{First, Second, Third}
 use Rattle.bulk_tensors.specs.declared.slots.Gain.{Gain}
 use Rattle.bulk_tensors.specs.Full.{SameBelow}
-use Rattle.bulk_tensors.specs.Change.{gained, obtained_entry, obtained_gained, at_slot, slot_by_slot, gains, all_below, slot_obtained, slots_obtained, gains_obtained}
+use Rattle.bulk_tensors.specs.Change.{gained, obtained_entry, obtained_gained, at_slot, slot_by_slot, gains, all_below, slot_obtained, slots_obtained, parts_obtained, gains_obtained}
 
 -- ---- columns that agree below n
 
@@ -116,7 +116,7 @@ gains_same T T' a c p q h = record {
 }
 
 pub gains_obtained_same : (T T' : Tensors) (a c : Gain) → a.from < T.dim → c.from < T.dim → a.to < T.dim → SameEntries T T' → gains_obtained a c T ≡ gains_obtained a c T'
-unfolding gains_obtained
+unfolding gains_obtained parts_obtained
 gains_obtained_same T T' a c p q r h =
     let A = slots_obtained_same T.dim a a a T.A T'.A p p p (unfold SameBelow in h.A) in
     let B = slots_obtained_same T.dim a a c T.B T'.B p p q (unfold SameBelow in h.B) in

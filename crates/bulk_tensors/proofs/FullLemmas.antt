@@ -27,16 +27,16 @@ entry-set_other l p v i j k h = get_or-set_other l p (64 * i + 8 * j + k) v 0ℚ
 abbrev pub Walked : ℕ → ℕ → (ℕ → ℕ → ℕ → Option ℚ) → (ℕ → ℕ → ℕ → ℚ) → Type 0
 Walked dim p f F = (i j k : ℕ) → i < dim → j < dim → k < dim → 64 * i + 8 * j + k < p → f i j k ≡ Some (F i j k)
 
-pub walked_next : (dim p : ℕ) (f : ℕ → ℕ → ℕ → Option ℚ) (l : List ℚ) (v : ℚ) → dim ≤ 8 → p < length l → Walked dim p f (entry l) → f (p / 64) (p / 8 % 8) (p % 8) ≡ Some v → Walked dim (p + 1) f (entry (set l p v))
-walked_next dim p f l v most h walked here = λ i j k a b c q. by i j k a b c q (cases_eq (64 * i + 8 * j + k) p)
+pub walked_next : (dim p : ℕ) (f : ℕ → ℕ → ℕ → Option ℚ) (l l' : List ℚ) (v : ℚ) → dim ≤ 8 → Walked dim p f (entry l) → f (p / 64) (p / 8 % 8) (p % 8) ≡ Some v → l' ≡ set l (64 * (p / 64) + 8 * (p / 8 % 8) + p % 8) v → entry l' (p / 64) (p / 8 % 8) (p % 8) ≡ v → Walked dim (p + 1) f (entry l')
+walked_next dim p f l l' v most walked obtained left here = λ i j k a b c q. by i j k a b c q (cases_eq (64 * i + 8 * j + k) p)
   where
-    by : (i j k : ℕ) → i < dim → j < dim → k < dim → 64 * i + 8 * j + k < p + 1 → (64 * i + 8 * j + k ≡ p) ⊎ (64 * i + 8 * j + k ≡ p → ⊥) → f i j k ≡ Some (entry (set l p v) i j k)
+    by : (i j k : ℕ) → i < dim → j < dim → k < dim → 64 * i + 8 * j + k < p + 1 → (64 * i + 8 * j + k ≡ p) ⊎ (64 * i + 8 * j + k ≡ p → ⊥) → f i j k ≡ Some (entry l' i j k)
     by i j k a b c q (inl e) =
         let first : i ≡ p / 64 = omega arith in
         let second : j ≡ p / 8 % 8 = omega arith in
         let third : k ≡ p % 8 = omega arith in
-        ap₂ (λ x y. f x y k) first second ∙ ap (f (p / 64) (p / 8 % 8)) third ∙ here ∙ ap Some (sym (entry-set_same l p v i j k h e))
-    by i j k a b c q (inr e) = walked i j k a b c (omega arith) ∙ ap Some (sym (entry-set_other l p v i j k e))
+        rw (first, second, third) (obtained ∙ ap Some (sym here))
+    by i j k a b c q (inr e) = walked i j k a b c (omega arith) ∙ ap Some (sym (ap (λ m. entry m i j k) left ∙ entry-set_other l _ v i j k (λ x. e (omega arith))))
 
 pub walked_skip : (dim p : ℕ) (f : ℕ → ℕ → ℕ → Option ℚ) (F : ℕ → ℕ → ℕ → ℚ) → dim ≤ 8 → (p / 64 < dim → p / 8 % 8 < dim → p % 8 < dim → ⊥) → Walked dim p f F → Walked dim (p + 1) f F
 walked_skip dim p f F most none walked = λ i j k a b c q. by i j k a b c q (cases_eq (64 * i + 8 * j + k) p)

@@ -1,12 +1,14 @@
 -- Changes of basis: F'[..s..] = F[..s..] + t F[..r..] for the amplitudes, in each place, and what that makes of the tensors.
 use Prim.Native.Nat.{ℕ, zero, suc}
 use mathlib.Core.Bool.{Bool, true, ◌&&◌, cond}
+use mathlib.Core.List.{List}
 use lib.Dec.{eqb}
 use Rattle.std.specs.Prelude.{Option, Some}
 use Rattle.std.specs.Option.{is_some}
 use Rattle.airy_math.specs.Rational.{ℚ, ◌+ℚ◌, ◌*ℚ◌, neg_ℚ}
 use Rattle.airy_math.specs.Obtained.{both_obtained, obtained_sum, obtained_product}
 use Rattle.airy_math.specs.Tensors.{Tensors}
+use Rattle.bulk_tensors.specs.Full.{entry, SameBelow}
 use Rattle.bulk_tensors.specs.declared.slots.Slot.{Slot}
 use Rattle.bulk_tensors.specs.declared.slots.Slot.TheVariants.{First, Second, Third}
 use Rattle.bulk_tensors.specs.declared.slots.Gain.{Gain}
@@ -41,6 +43,10 @@ contracted r s t = record { to = r; from = s; factor = neg_ℚ t }
 unfoldable pub slot_by_slot : Gain → Gain → Gain → (ℕ → ℕ → ℕ → ℚ) → ℕ → ℕ → ℕ → ℚ
 slot_by_slot l m n F = at_slot Third (gained n) (at_slot Second (gained m) (at_slot First (gained l) F))
 
+-- the new entries are the old ones with all three slots changed, at indices below dim
+abbrev pub IsChanged : ℕ → Gain → Gain → Gain → List ℚ → List ℚ → Type 0
+IsChanged dim l m n old new = SameBelow dim (entry new) (slot_by_slot l m n (entry old))
+
 -- The tensors with all slots changed. The slots of A, the first two of B, the first of C and the one of D are amplitude slots,
 -- the last of B and the last two of C contracted ones.
 unfoldable pub gains : Gain → Gain → Tensors → Tensors
@@ -68,13 +74,13 @@ slots_obtained dim l m n F =
     && slot_obtained dim Second m (at_slot First (gained l) F)
     && slot_obtained dim Third n (at_slot Second (gained m) (at_slot First (gained l) F))
 
+-- of A, B and C
+unfoldable pub parts_obtained : ℕ → Gain → Gain → (ℕ → ℕ → ℕ → ℚ) → (ℕ → ℕ → ℕ → ℚ) → (ℕ → ℕ → ℕ → ℚ) → Bool
+parts_obtained dim a c A B C = slots_obtained dim a a a A && slots_obtained dim a a c B && slots_obtained dim a c c C
+
 -- of all tensors
 unfoldable pub gains_obtained : Gain → Gain → Tensors → Bool
-gains_obtained a c T =
-    slots_obtained T.dim a a a T.A
-    && slots_obtained T.dim a a c T.B
-    && slots_obtained T.dim a c c T.C
-    && is_some (obtained_gained a T.D a.to)
+gains_obtained a c T = parts_obtained T.dim a c T.A T.B T.C && is_some (obtained_gained a T.D a.to)
 
 -- whether each product and each sum of the change (r, s, t) is obtained
 unfoldable pub is_obtained : ℕ → ℕ → ℚ → Tensors → Bool

@@ -8,7 +8,7 @@ use Rattle.airy_math.specs.Examples.{computes}
 use Rattle.airy_math.specs.Rational.{◌/ℚ◌}
 use Rattle.airy_math.specs.Sums.{below}
 use Rattle.bulk_tensors.specs.Bulk.{on_diagonal, diagonal, factor, after, bulk, then_refused, first_refused, bulk_refusal}
-use Rattle.bulk_tensors.specs.Change.{gained, obtained_entry, obtained_gained, at_slot, amplitude, contracted, slot_by_slot, gains, changed, all_below, slot_obtained, slots_obtained, gains_obtained, is_obtained}
+use Rattle.bulk_tensors.specs.Change.{gained, obtained_entry, obtained_gained, at_slot, amplitude, contracted, slot_by_slot, gains, changed, all_below, slot_obtained, slots_obtained, parts_obtained, gains_obtained, is_obtained}
 use Rattle.bulk_tensors.specs.Draws.{state, draw}
 
 draws_of_1 : map (draw 1) (below 9) ≡ 16838 ∷ 5758 ∷ 10113 ∷ 17515 ∷ 31051 ∷ 5627 ∷ 23010 ∷ 7419 ∷ 16212 ∷ []
@@ -35,5 +35,5 @@ a_of_two = refl
 
 -- all steps of two indices are obtained
 none_refused : bulk_refusal 1 2 ≡ None
-unfolding bulk_computes obtained_entry obtained_gained all_below slot_obtained slots_obtained gains_obtained is_obtained then_refused first_refused bulk_refusal
+unfolding bulk_computes obtained_entry obtained_gained all_below slot_obtained slots_obtained parts_obtained gains_obtained is_obtained then_refused first_refused bulk_refusal
 none_refused = refl

@@ -1,7 +1,7 @@
 ghost use Rattle.std.specs.Prelude.{◌≡◌, ◌≤◌, ◌<◌, ◌+◌, ◌*◌, ◌^◌, ◌%◌, ◌-◌, IfOk, IfErr, pos};
 ghost use Rattle.airy_math.specs.Rational.{◌/ℚ◌};
 ghost use Rattle.airy_math.specs.Tensors.{SameEntries};
-ghost use Rattle.bulk_tensors.specs.Full.{listed};
+ghost use Rattle.bulk_tensors.specs.Full.{listed, zero_lists};
 ghost use Rattle.bulk_tensors.specs.Bulk.{diagonal, bulk_refusal, StandsForBulk, NamesStep};
 ghost use Rattle.bulk_tensors.specs.Draws.{state};
 
@@ -22,14 +22,14 @@ fn eighths(n: u32) -> Frac
     }
 }
 
-/// The diagonal tensors of the next draws, four for each index.
-fn diagonal(dim: u8, draws: &mut Draws) -> FullTensors
+/// Sets the entries of the diagonal tensors of the next draws, four for each index, in tensors that are 0.
+fn set_diagonal(full: &mut FullTensors, dim: u8, draws: &mut Draws)
     requires some { 0 < dim }
     requires most { dim ≤ 8 }
-    ensures entries { SameEntries (listed result) (diagonal draws.old.state dim) }
+    requires zero { full.old ≡ zero_lists dim }
+    ensures entries { SameEntries (listed full.new) (diagonal draws.old.state dim) }
     ensures draws { draws.new.state ≡ state draws.old.state (4 * dim) }
 {
-    let mut full = FullTensors::zero(dim);
     for i in 0..dim {
         let a = Frac::whole(1 + (draws.draw() % 3) as i64);
         let b = Frac::whole(1 + (draws.draw() % 3) as i64);
@@ -37,7 +37,6 @@ fn diagonal(dim: u8, draws: &mut Draws) -> FullTensors
         let d = eighths(1 + draws.draw() % 7);
         full.set_diagonal(i, a, b, c, d);
     }
-    full
 }
 
 /// The tensors that the number SEED gives, with all indices below dim, of shape All and without a letter. Seed is below 2^31,
@@ -59,7 +58,8 @@ pub fn bulk_tensors(alloc: Global, seed: u32, dim: u8) -> Result<Tensors, BulkEr
     ensures over { IfErr result (λ e. NamesStep e (bulk_refusal seed dim)) }
 {
     let mut draws = Draws { state: seed };
-    let mut full = diagonal(dim, &mut draws);
+    let mut full = FullTensors::zero(alloc, dim)?;
+    set_diagonal(&mut full, dim, &mut draws);
     for r in 0..dim - 1 {
         let t = Frac::whole((draws.draw() % 3) as i64 - 1);
         full.change(r, t)?;

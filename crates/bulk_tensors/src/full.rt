@@ -1,17 +1,18 @@
-ghost use Rattle.std.specs.Prelude.{◌≡◌, ◌≤◌, ◌<◌, ◌+◌, ◌*◌, ◌↔◌, IsTrue, set, replicate};
+ghost use Rattle.std.specs.Prelude.{◌≡◌, ◌≤◌, ◌<◌, ◌+◌, ◌*◌, ◌↔◌, IsTrue, IfOk, set, replicate};
 ghost use Rattle.std.specs.Option.{IfSome, is_some};
 ghost use Rattle.airy_math.specs.RationalLaws.{0ℚ};
 ghost use Rattle.bulk_tensors.specs.Full.{place, entry, SameBelow};
-ghost use Rattle.bulk_tensors.specs.Change.{gained, obtained_gained, at_slot, slot_by_slot, slot_obtained, slots_obtained};
+ghost use Rattle.bulk_tensors.specs.Change.{gained, obtained_gained, at_slot, IsChanged, slot_obtained, slots_obtained};
 
 use crate::slots::{Gain, Slot};
 use frac128::Frac;
+use std::alloc::{AllocError, Global};
 use std::marker::Model;
 
 /// All entries of a tensor with three indices below 8: that of i, j and k stands at 64 i + 8 j + k.
 #[derive(Drop)]
 pub(crate) struct Full {
-    entries: [Frac; 512],
+    entries: Vec<Frac>,
 }
 
 impl Model for Full {
@@ -23,9 +24,9 @@ impl Model for Full {
 
     ghost coded = { entries_code };
 
-    ghost view = { λ f. f.entries };
+    ghost view = { λ f. f.entries.items };
 
-    ghost invariant = { λ f. length f.entries ≡ 512 };
+    ghost invariant = { λ f. length f.entries.items ≡ 512 };
 }
 
 /// Whether all three indices are below dim.
@@ -37,12 +38,12 @@ pub(crate) fn are_below(dim: usize, i: usize, j: usize, k: usize) -> bool
 
 impl Full {
     /// The tensor 0.
-    pub fn zero() -> Full
-        ensures { result ≡ replicate 512 0ℚ }
+    pub fn zero(alloc: Global) -> Result<Full, AllocError>
+        ensures { IfOk result (λ f. f ≡ replicate 512 0ℚ) }
     {
-        Full {
-            entries: [Frac::whole(0); 512],
-        }
+        Ok(Full {
+            entries: vec![in alloc; Frac::whole(0); 512]?,
+        })
     }
 
     /// The entry at i, j and k.
@@ -60,7 +61,8 @@ impl Full {
         requires first { i < 8 }
         requires second { j < 8 }
         requires third { k < 8 }
-        ensures { self.new ≡ set self.old (place i j k) v }
+        ensures set { self.new ≡ set self.old (place i j k) v }
+        ensures here { entry self.new i j k ≡ v }
     {
         self.entries[64 * i + 8 * j + k] = v;
     }
@@ -81,34 +83,43 @@ impl Full {
         }
     }
 
-    /// The tensor with one slot changed at the indices below dim, None where a product or a sum isn't obtained.
-    fn slot_changed(&self, dim: usize, slot: Slot, gain: &Gain) -> Option<Full>
+    /// Makes the other tensor this one with one slot changed, at the indices below dim; None where a product or a sum isn't obtained.
+    fn change_slot(&self, dim: usize, slot: Slot, gain: &Gain, into: &mut Full) -> Option<()>
         requires most { dim ≤ 8 }
         requires from { gain.now.from < dim }
         ensures obtained { is_some result ≡ slot_obtained dim slot gain.now (entry self.now) }
-        ensures changed { IfSome result (λ f. SameBelow dim (entry f) (at_slot slot (gained gain.now) (entry self.now))) }
+        ensures changed { IfSome result (λ _. SameBelow dim (entry into.new) (at_slot slot (gained gain.now) (entry self.now))) }
     {
-        let mut entries = self.entries;
         for place in 0..512 {
             let (i, j, k) = (place / 64, place / 8 % 8, place % 8);
             if are_below(dim, i, j, k) {
-                entries[place] = self.entry_changed(slot, gain, i, j, k)?;
+                let changed = self.entry_changed(slot, gain, i, j, k)?;
+                into.set(i, j, k, changed);
             }
         }
-        Some(Full { entries })
+        Some(())
     }
 
-    /// The tensor with all slots changed from left to right, None where a product or a sum isn't obtained.
-    pub fn changed(&self, dim: usize, first: &Gain, second: &Gain, third: &Gain) -> Option<Full>
+    /// Makes the tensor `into` this one with all slots changed from left to right, by way of the tensor `between`; None where a
+    /// product or a sum isn't obtained.
+    pub fn change(
+        &self,
+        dim: usize,
+        first: &Gain,
+        second: &Gain,
+        third: &Gain,
+        between: &mut Full,
+        into: &mut Full,
+    ) -> Option<()>
         requires most { dim ≤ 8 }
         requires first { first.now.from < dim }
         requires second { second.now.from < dim }
         requires third { third.now.from < dim }
         ensures obtained { is_some result ≡ slots_obtained dim first.now second.now third.now (entry self.now) }
-        ensures changed { IfSome result (λ f. SameBelow dim (entry f) (slot_by_slot first.now second.now third.now (entry self.now))) }
+        ensures changed { IfSome result (λ _. IsChanged dim first.now second.now third.now self.now into.new) }
     {
-        let one = self.slot_changed(dim, Slot::First, first)?;
-        let two = one.slot_changed(dim, Slot::Second, second)?;
-        two.slot_changed(dim, Slot::Third, third)
+        self.change_slot(dim, Slot::First, first, into)?;
+        into.change_slot(dim, Slot::Second, second, between)?;
+        between.change_slot(dim, Slot::Third, third, into)
     }
 }

@@ -1,4 +1,4 @@
-ghost use Rattle.std.specs.Prelude.{◌≡◌, ◌≤◌, ◌<◌, ◌+◌, ℕ, cond, Ok, Err, OnOk, OnErr, get_or, length};
+ghost use Rattle.std.specs.Prelude.{◌≡◌, ◌≤◌, ◌<◌, ◌+◌, ℕ, cond, Ok, Err, OnOk, OnErr, get_or, length, None, IfOk};
 ghost use Rattle.std.specs.Option.{IfSome, is_some};
 ghost use Rattle.airy_math.specs.Tensors.{SameEntries};
 ghost use Rattle.airy_math.specs.RationalLaws.{0ℚ};
@@ -7,10 +7,12 @@ ghost use Rattle.bulk_tensors.specs.Change.{changed, is_obtained, gains, gains_o
 ghost use Rattle.bulk_tensors.specs.declared.full_tensors.BulkErr.TheVariants as bulk_err;
 
 use crate::full::Full;
+use crate::room::Room;
 use crate::slots::Gain;
 use frac128::Frac;
-use std::alloc::AllocError;
+use std::alloc::{AllocError, Global};
 use std::marker::Model;
+use std::mem;
 
 /// Why tensors aren't made.
 #[derive(Clone, Copy, Debug, PartialEq, Eq)]
@@ -37,6 +39,7 @@ pub struct FullTensors {
     pub(crate) b: Full,
     pub(crate) c: Full,
     pub(crate) d: [Frac; 8],
+    room: Room,
 }
 
 impl Model for FullTensors {
@@ -53,20 +56,20 @@ impl Model for FullTensors {
 }
 
 impl FullTensors {
-    /// Tensors whose entries are all 0. Dim is from 1 to 8.
-    pub fn zero(dim: u8) -> FullTensors
+    /// Tensors whose entries are all 0, with the room that changes need. Dim is from 1 to 8.
+    pub fn zero(alloc: Global, dim: u8) -> Result<FullTensors, AllocError>
         requires some { 0 < dim }
         requires most { dim ≤ 8 }
-        ensures entries { result ≡ zero_lists dim }
-        ensures dim { result.dim ≡ dim }
+        ensures { IfOk result (λ t. t ≡ zero_lists dim) }
     {
-        FullTensors {
+        Ok(FullTensors {
             dim,
-            a: Full::zero(),
-            b: Full::zero(),
-            c: Full::zero(),
+            a: Full::zero(alloc)?,
+            b: Full::zero(alloc)?,
+            c: Full::zero(alloc)?,
             d: [Frac::whole(0); 8],
-        }
+            room: Room::new(alloc)?,
+        })
     }
 
     /// Sets `A^i_{ii}`, `B^i_{ii}`, `C^i_{ii}` and `D^i`.
@@ -108,31 +111,29 @@ impl FullTensors {
             from: to,
             factor: t.neg(),
         };
-        match self.changed(&amplitude, &contracted) {
-            Some(new) => {
-                *self = new;
-                Ok(())
-            }
+        match self.change_slots(&amplitude, &contracted) {
+            Some(()) => Ok(()),
             None => Err(BulkErr::Over { step: r + 1 }),
         }
     }
 
-    /// The tensors with all slots changed, None where a product or a sum isn't obtained.
-    fn changed(&self, amplitude: &Gain, contracted: &Gain) -> Option<FullTensors>
-        requires amplitude { amplitude.now.from < self.now.dim }
-        requires contracted { contracted.now.from < self.now.dim }
-        requires to { amplitude.now.to < self.now.dim }
-        ensures obtained { is_some result ≡ gains_obtained amplitude.now contracted.now (listed self.now) }
-        ensures changed { IfSome result (λ t. SameEntries (listed t) (gains amplitude.now contracted.now (listed self.now))) }
+    /// Changes all slots, or none where a product or a sum isn't obtained.
+    fn change_slots(&mut self, amplitude: &Gain, contracted: &Gain) -> Option<()>
+        requires amplitude { amplitude.now.from < self.old.dim }
+        requires contracted { contracted.now.from < self.old.dim }
+        requires to { amplitude.now.to < self.old.dim }
+        ensures obtained { is_some result ≡ gains_obtained amplitude.now contracted.now (listed self.old) }
+        ensures changed { IfSome result (λ _. SameEntries (listed self.new) (gains amplitude.now contracted.now (listed self.old))) }
+        ensures same { result ≡ None → self.new ≡ self.old }
     {
         let dim = usize::from(self.dim);
-        Some(FullTensors {
-            dim: self.dim,
-            a: self.a.changed(dim, amplitude, amplitude, amplitude)?,
-            b: self.b.changed(dim, amplitude, amplitude, contracted)?,
-            c: self.c.changed(dim, amplitude, contracted, contracted)?,
-            d: self.d_changed(amplitude)?,
-        })
+        self.room
+            .change(dim, &self.a, &self.b, &self.c, amplitude, contracted)?;
+        self.d = self.d_changed(amplitude)?;
+        mem::swap(&mut self.a, &mut self.room.a);
+        mem::swap(&mut self.b, &mut self.room.b);
+        mem::swap(&mut self.c, &mut self.room.c);
+        Some(())
     }
 
     /// The entries of D with the one at `to` changed, None where its product or its sum isn't obtained.

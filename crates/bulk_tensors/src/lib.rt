@@ -6,6 +6,7 @@ mod draws;
 mod full;
 mod full_tensors;
 mod putting;
+mod room;
 mod slots;
 
 pub use bulk::bulk_tensors;

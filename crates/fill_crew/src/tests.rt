@@ -1,49 +1,86 @@
-ghost use Rattle.std.specs.Prelude.{◌≤◌, ◌<◌};
+ghost use Rattle.std.specs.Prelude.{◌≡◌, ◌≤◌, ◌<◌, IfSome, Some, None, cond, length, vec_len};
 ghost use Rattle.cell_words.specs.Layout.{cells};
-ghost use Rattle.cell_words.specs.LevelSeats.{IsAsker};
+ghost use Rattle.cell_words.specs.LevelSeats.{IsAsker, IsFiller};
+ghost use Rattle.cell_words.specs.Seats.{plan_of, number_of, held_of, IsSeatOf};
+ghost use Rattle.cell_words.specs.Deals.{AreAll};
+ghost use Rattle.fill_crew.specs.Crews.{IsIdle, IsBack, EachAt, PairsAt};
 
-use crate::{Gate, OpenGate, StopAfter, StopAt, StopWorker, fill_all, fill_beside, level_beside};
+use crate::{
+    Gate, OpenGate, StopAfter, StopAt, StopWorker, fill_all, fill_beside, level_beside, sweep,
+};
 use airy_index::{Law, Shape};
 use amp_plan::Plan;
-use amp_terms::one_thread;
-use cell_words::{Cells, Countdown, Frontier, Look};
+use amp_terms::{Table, one_thread};
+use cell_words::{Cells, Claim, Closed, CountSeat, Countdown, FillSeat, Frontier, LevelSeat, Look};
 use frac128::Frac;
-use sparse_tensor::Tensors;
+use sparse_tensor::{PutErr, Tensors};
 use std::alloc::Global;
 use std::sync::atomic::{AtomicU64, Ordering};
-use std::test::Fail;
+use std::thread;
 use std::thread::Threads;
 
-/// What a call made.
-fn made<T, E: Drop>(answer: Result<T, E>) -> Result<T, Fail> {
-    match answer {
-        Ok(it) => Ok(it),
-        Err(_) => Err(Fail::from("no answer")),
-    }
+/// The fraction num / den, or 0 where it is none.
+fn fraction(num: i128, den: i128) -> Frac {
+    Frac::new(num, den).unwrap_or(Frac::whole(0))
 }
 
-/// The tensors of Witten and Kontsevich with all indices up to 2.
+/// The tensors of Witten and Kontsevich with so many indices: `A^0_00 = 1`, `B^i_jk = 2j + 1` where `i + j = k + 1`,
+/// `C^i_jk = 1` where `i = j + k + 2`, `D^1 = 1/8`.
 #[tactic(auto, unfolding(sparse_tensor::specs::Grades::IsSmallLaw))]
-fn wk_2(alloc: Global) -> Result<Tensors, Fail> {
+fn wk(alloc: Global, dim: u8) -> Option<Tensors>
+    requires some { 0 < dim }
+    requires most { dim ≤ 72 }
+{
     let shape = Shape::Exact(Law { per_g: 3, per_n: 1 });
-    let mut t = made(Tensors::empty(alloc, 3, shape, false))?;
-    made(t.put_a(0, 0, 0, Frac::whole(1)))?;
-    made(t.put_d(1, made(Frac::new(1, 8))?))?;
-    made(t.put_c(2, 0, 0, Frac::whole(1)))?;
-    for i in 0..3u8 {
-        for j in 0..3u8 {
-            if i + j >= 1 && i + j <= 3 {
-                made(t.put_b(i, j, i + j - 1, Frac::whole(2 * i64::from(j) + 1)))?;
-            }
+    let mut t = Tensors::empty(alloc, dim, shape, false).ok()?;
+    put_wk(&mut t, dim).ok()?;
+    Some(t)
+}
+
+fn put_wk(t: &mut Tensors, dim: u8) -> Result<(), PutErr>
+    requires { dim ≤ 72 }
+{
+    t.put_a(0, 0, 0, Frac::whole(1))?;
+    t.put_d(1, fraction(1, 8))?;
+    for i in 0..dim {
+        for j in 0..dim {
+            put_with(t, i, j, dim)?;
         }
     }
-    Ok(t)
+    Ok(())
+}
+
+/// The entries of B whose first two indices are i and j, and those of C whose last two are.
+fn put_with(t: &mut Tensors, i: u8, j: u8, dim: u8) -> Result<(), PutErr>
+    requires i { i < 72 }
+    requires j { j < 72 }
+{
+    if i + j >= 1 && i + j <= dim {
+        t.put_b(i, j, i + j - 1, Frac::whole(2 * i64::from(j) + 1))?;
+    }
+    if i <= j && i + j + 2 < dim {
+        t.put_c(i + j + 2, i, j, Frac::whole(1))?;
+    }
+    Ok(())
 }
 
 /// Two copies of a structure of one dimension after a change of basis.
 #[tactic(auto, unfolding(sparse_tensor::specs::Grades::IsSmallLaw))]
-fn two_copies(alloc: Global) -> Result<Tensors, Fail> {
-    let mut t = made(Tensors::empty(alloc, 2, Shape::All, false))?;
+fn two_copies(alloc: Global) -> Option<Tensors> {
+    let mut t = Tensors::empty(alloc, 2, Shape::All, false).ok()?;
+    put_copies(&mut t).ok()?;
+    Some(t)
+}
+
+fn put_copies(t: &mut Tensors) -> Result<(), PutErr> {
+    put_copies_of_a(t)?;
+    put_copies_of_b(t)?;
+    put_copies_of_c(t)?;
+    t.put_d(0, fraction(1, 8))?;
+    t.put_d(1, fraction(1, 4))
+}
+
+fn put_copies_of_a(t: &mut Tensors) -> Result<(), PutErr> {
     for (i, j, k, v) in [
         (0u8, 0u8, 0u8, 1i64),
         (0, 0, 1, 1),
@@ -52,31 +89,57 @@ fn two_copies(alloc: Global) -> Result<Tensors, Fail> {
         (1, 0, 1, 1),
         (1, 1, 1, 2),
     ] {
-        made(t.put_a(i, j, k, Frac::whole(v)))?;
+        t.put_a(i, j, k, Frac::whole(v))?;
     }
+    Ok(())
+}
+
+fn put_copies_of_b(t: &mut Tensors) -> Result<(), PutErr> {
     for (i, j, k, v) in [
         (0u8, 0u8, 0u8, 1i64),
         (0, 1, 0, 1),
         (1, 0, 0, 1),
         (1, 1, 1, 1),
     ] {
-        made(t.put_b(i, j, k, Frac::whole(v)))?;
+        t.put_b(i, j, k, Frac::whole(v))?;
     }
+    Ok(())
+}
+
+fn put_copies_of_c(t: &mut Tensors) -> Result<(), PutErr> {
     for (i, j, k, v) in [
         (0u8, 0u8, 0u8, 1i64),
         (1, 0, 0, 2),
         (1, 0, 1, -1),
         (1, 1, 1, 1),
     ] {
-        made(t.put_c(i, j, k, Frac::whole(v)))?;
+        t.put_c(i, j, k, Frac::whole(v))?;
     }
-    made(t.put_d(0, made(Frac::new(1, 8))?))?;
-    made(t.put_d(1, made(Frac::new(1, 4))?))?;
-    Ok(t)
+    Ok(())
 }
 
-fn plan_of(alloc: Global, t: Tensors, bound: u8) -> Result<Plan, Fail> {
-    made(Plan::make(alloc, t, bound))
+/// The plan of these tensors, where it has so many keys.
+fn planned(alloc: Global, tensors: Tensors, bound: u8, keys: u32) -> Option<Plan>
+    ensures { IfSome result (λ p. cells p ≡ keys) }
+{
+    let plan = Plan::make(alloc, tensors, bound).ok()?;
+    if plan.len() != keys {
+        return None;
+    }
+    Some(plan)
+}
+
+/// A board of these tensors' plan, which has so many keys, and its two seats.
+fn board_of_two(
+    alloc: Global,
+    tensors: Tensors,
+    bound: u8,
+    keys: u32,
+) -> Option<(Countdown, Vec<CountSeat>)>
+    ensures all { IfSome result (λ t. AreAll t.0 t.1.items) }
+    ensures two { IfSome result (λ t. vec_len t.1 ≡ 2) }
+{
+    Countdown::make(alloc, planned(alloc, tensors, bound, keys)?, 2).ok()
 }
 
 /// Waits for so many turns at most until the flag is raised.
@@ -89,7 +152,11 @@ fn wait_for(flag: &AtomicU64) -> bool {
     false
 }
 
-/// Holds each of two workers at its first cell until the other was asked, too.
+fn is_raised(flag: &AtomicU64) -> bool {
+    flag.load(Ordering::SeqCst) == 1
+}
+
+/// Two that meet: each raises its flag and waits for the other's.
 #[derive(Drop)]
 struct Pair {
     first: AtomicU64,
@@ -97,9 +164,17 @@ struct Pair {
     late: AtomicU64,
 }
 
-impl Gate for Pair {
-    fn before(&self, worker: u8, _done: u32, _rank: u32) -> bool {
-        let (own, other) = if worker == 0 {
+impl Pair {
+    fn new() -> Pair {
+        Pair {
+            first: AtomicU64::new(0),
+            second: AtomicU64::new(0),
+            late: AtomicU64::new(0),
+        }
+    }
+
+    fn meet(&self, is_first: bool) {
+        let (own, other) = if is_first {
             (&self.first, &self.second)
         } else {
             (&self.second, &self.first)
@@ -108,8 +183,55 @@ impl Gate for Pair {
         if !wait_for(other) {
             self.late.store(1, Ordering::SeqCst);
         }
+    }
+
+    /// Whether both came, and neither waited in vain.
+    fn met(&self) -> bool {
+        is_raised(&self.first) && is_raised(&self.second) && !is_raised(&self.late)
+    }
+}
+
+/// Holds each of two workers at its first cell until the other was asked, too.
+impl Gate for Pair {
+    fn before(&self, worker: u8, _done: u32, _rank: u32) -> bool {
+        self.meet(worker == 0);
         true
     }
+}
+
+/// Whether a crew of two runs beside one call, and the gate asked both workers, each while it held the other.
+fn asks_two_at_once<R: Threads + Sync>(
+    rt: &R,
+    alloc: Global,
+    board: &Countdown,
+    seats: Vec<CountSeat>,
+    gate: &Pair,
+) -> bool
+    requires seats { EachAt (IsIdle board.now) seats.items }
+    requires two { vec_len seats ≡ 2 }
+{
+    let mut calls = 0u32;
+    let (seats, ()) = fill_beside(
+        rt,
+        alloc,
+        board,
+        seats,
+        gate,
+        &mut || {
+            calls = calls.wrapping_add(1);
+        },
+    );
+    calls == 1 && seats.len() == 2 && gate.met()
+}
+
+fn two_work_at_once<R: Threads + Sync>(rt: &R, alloc: Global) -> Option<bool> {
+    let (board, seats) = board_of_two(alloc, wk(alloc, 3)?, 1, 2)?;
+    Some(asks_two_at_once(rt, alloc, &board, seats, &Pair::new()))
+}
+
+#[test]
+fn two_workers_at_once(rt: HostRuntime) {
+    assert!(rt; two_work_at_once(&rt, rt.alloc()) == Some(true));
 }
 
 /// Holds worker 0 at its first cell until worker 1 was asked with three cells filled.
@@ -131,100 +253,236 @@ impl Gate for Held {
     }
 }
 
-#[test]
-fn two_workers_at_once(rt: HostRuntime) -> Result<(), Fail> {
-    let alloc = rt.alloc();
-    let plan = plan_of(alloc, wk_2(alloc)?, 1)?;
-    let Ok((board, seats)) = Countdown::make(alloc, plan, 2) else {
-        return Err(Fail::from("board"));
-    };
-    let gate = Pair {
-        first: AtomicU64::new(0),
-        second: AtomicU64::new(0),
-        late: AtomicU64::new(0),
-    };
-    let mut calls = 0u32;
-    let (seats, ()) = fill_beside(
-        &rt,
-        alloc,
-        &board,
-        seats,
-        &gate,
-        &mut || {
-            calls = calls.wrapping_add(1);
-        },
-    );
-    assert!(rt; calls == 1 && seats.len() == 2);
-    assert!(rt; gate.first.load(Ordering::SeqCst) == 1 && gate.second.load(Ordering::SeqCst) == 1);
-    assert!(rt; gate.late.load(Ordering::SeqCst) == 0);
-    Ok(())
+/// Whether worker 1 fills at least four cells while the gate holds worker 0.
+fn takes_four<R: Threads + Sync>(
+    rt: &R,
+    alloc: Global,
+    board: &Countdown,
+    seats: Vec<CountSeat>,
+    gate: &Held,
+) -> bool
+    requires seats { EachAt (IsIdle board.now) seats.items }
+    requires two { vec_len seats ≡ 2 }
+{
+    let (seats, ()) = fill_beside(rt, alloc, board, seats, gate, &mut || {});
+    seats[1].done().len() >= 4 && is_raised(&gate.taken) && !is_raised(&gate.late)
 }
 
-#[test]
-fn one_takes_anothers(rt: HostRuntime) -> Result<(), Fail> {
-    let alloc = rt.alloc();
-    let plan = plan_of(alloc, two_copies(alloc)?, 1)?;
-    assert!(rt; plan.len() == 6);
-    let Ok((board, seats)) = Countdown::make(alloc, plan, 2) else {
-        return Err(Fail::from("board"));
-    };
+fn takes_anothers<R: Threads + Sync>(rt: &R, alloc: Global) -> Option<bool> {
+    let (board, seats) = board_of_two(alloc, two_copies(alloc)?, 1, 6)?;
     let gate = Held {
         taken: AtomicU64::new(0),
         late: AtomicU64::new(0),
     };
-    let (seats, ()) = fill_beside(&rt, alloc, &board, seats, &gate, &mut || {});
-    assert!(rt; gate.taken.load(Ordering::SeqCst) == 1 && gate.late.load(Ordering::SeqCst) == 0);
-    assert!(rt; seats[1].done().len() >= 4);
-    Ok(())
+    Some(takes_four(rt, alloc, &board, seats, &gate))
 }
 
-/// The table is that of one thread, and the receipts have as many ranks.
-fn same_as_one_thread<R: Threads + Sync, G: Gate + Sync>(
-    rt: &R,
-    alloc: Global,
-    crew: u8,
-    gate: &G,
-) -> Result<bool, Fail>
-    requires { crew ≤ 16 }
-{
-    let plan = plan_of(alloc, two_copies(alloc)?, 3)?;
-    let one = made(one_thread(alloc, &plan))?;
-    let closed = made(fill_all(rt, alloc, plan, crew, gate))?;
+#[test]
+fn one_takes_anothers(rt: HostRuntime) {
+    assert!(rt; takes_anothers(&rt, rt.alloc()) == Some(true));
+}
+
+/// How often a rank stands in a receipt.
+fn times_in(receipt: &[u32], rank: u32) -> usize {
+    let mut times = 0usize;
+    for filled in receipt {
+        if *filled == rank {
+            times = times.wrapping_add(1);
+        }
+    }
+    times
+}
+
+/// Whether a rank stands once in all receipts.
+fn stands_once(closed: &Closed, rank: u32) -> bool {
+    let mut times = 0usize;
+    for receipt in closed.receipts.iter() {
+        times = times.wrapping_add(times_in(receipt.as_slice(), rank));
+    }
+    times == 1
+}
+
+/// How many ranks stand in all receipts.
+fn filled_in(closed: &Closed) -> usize {
     let mut filled = 0usize;
     for receipt in closed.receipts.iter() {
         filled = filled.wrapping_add(receipt.len());
     }
-    let mut same = filled == closed.plan.len() as usize;
-    for r in 0..closed.plan.len() {
-        same = same
-            && r < closed.table.len()
-            && r < one.len()
-            && closed.table.outcome(r) == one.outcome(r);
+    filled
+}
+
+/// Whether the table of a closed board is this one, each rank stands once in the receipts, and nothing else does.
+fn is_filled_as(closed: &Closed, one: &Table) -> bool {
+    let len = closed.plan.len();
+    if closed.table.len() != len || one.len() != len || filled_in(closed) != len as usize {
+        return false;
     }
-    Ok(same)
+    for rank in 0..len {
+        if closed.table.outcome(rank) != one.outcome(rank) || !stands_once(closed, rank) {
+            return false;
+        }
+    }
+    true
+}
+
+/// Whether a closed board is as one thread fills it.
+fn is_filled(alloc: Global, closed: &Closed) -> Option<bool> {
+    Some(is_filled_as(closed, &one_thread(alloc, &closed.plan).ok()?))
+}
+
+/// Whether a crew with a gate fills the two copies up to 3 as one thread does.
+fn fills<R: Threads + Sync, G: Gate + Sync>(
+    rt: &R,
+    alloc: Global,
+    crew: u8,
+    gate: &G,
+) -> Option<bool>
+    requires { crew ≤ 16 }
+{
+    let plan = planned(alloc, two_copies(alloc)?, 3, 26)?;
+    is_filled(alloc, &fill_all(rt, alloc, plan, crew, gate).ok()?)
+}
+
+fn fills_all<R: Threads + Sync, G: Gate + Sync>(rt: &R, alloc: Global, crew: u8, gate: &G) -> bool
+    requires { crew ≤ 16 }
+{
+    fills(rt, alloc, crew, gate) == Some(true)
+}
+
+/// The same with each gate that lets every worker fill so many cells.
+fn stop_after<R: Threads + Sync>(rt: &R, alloc: Global, crew: u8) -> bool
+    requires { crew ≤ 16 }
+{
+    for cells in [0u32, 1, 7] {
+        if !fills_all(rt, alloc, crew, &StopAfter { cells }) {
+            return false;
+        }
+    }
+    true
+}
+
+/// The same with each gate that stops workers at a rank.
+fn stop_at<R: Threads + Sync>(rt: &R, alloc: Global, crew: u8) -> bool
+    requires { crew ≤ 16 }
+{
+    for rank in [0u32, 5] {
+        if !fills_all(rt, alloc, crew, &StopAt { rank }) {
+            return false;
+        }
+    }
+    true
 }
 
 /// The same with every gate.
-fn every_gate<R: Threads + Sync>(rt: &R, alloc: Global, crew: u8) -> Result<bool, Fail>
+fn every_gate<R: Threads + Sync>(rt: &R, alloc: Global, crew: u8) -> bool
     requires { crew ≤ 16 }
 {
-    let mut same = same_as_one_thread(rt, alloc, crew, &OpenGate)?;
-    same = same && same_as_one_thread(rt, alloc, crew, &StopWorker { worker: 0 })?;
-    for cells in [0u32, 1, 7] {
-        same = same && same_as_one_thread(rt, alloc, crew, &StopAfter { cells })?;
-    }
-    for rank in [0u32, 5] {
-        same = same && same_as_one_thread(rt, alloc, crew, &StopAt { rank })?;
-    }
-    Ok(same)
+    fills_all(rt, alloc, crew, &OpenGate)
+        && fills_all(rt, alloc, crew, &StopWorker { worker: 0 })
+        && stop_after(rt, alloc, crew)
+        && stop_at(rt, alloc, crew)
 }
 
 #[test]
-fn every_crew_and_gate(rt: HostRuntime) -> Result<(), Fail> {
+fn every_crew_and_gate(rt: HostRuntime) {
     for crew in [0u8, 1, 2, 4, 16] {
-        assert!(rt; every_gate(&rt, rt.alloc(), crew)?);
+        assert!(rt; every_gate(&rt, rt.alloc(), crew));
     }
-    Ok(())
+}
+
+/// Claims a rank. Whether that was granted.
+fn takes(board: &Countdown, seat: &mut CountSeat, rank: u32) -> bool
+    requires seat { IsIdle board.now seat.old }
+    requires rank { rank < cells (plan_of board.now) }
+    ensures seat { IsSeatOf board.now seat.new }
+    ensures held { held_of seat.new ≡ cond result (Some rank) None }
+    ensures number { number_of seat.new ≡ number_of seat.old }
+{
+    matches!(board.claim(seat, rank), Claim::Mine)
+}
+
+/// Claims a rank and fills it where that was granted.
+fn fill_if_free(board: &Countdown, seat: &mut CountSeat, rank: u32)
+    requires seat { IsIdle board.now seat.old }
+    requires rank { rank < cells (plan_of board.now) }
+    ensures seat { IsIdle board.now seat.new }
+    ensures number { number_of seat.new ≡ number_of seat.old }
+{
+    if takes(board, seat, rank) {
+        board.fill(seat, rank, |_: u32| {});
+    }
+}
+
+/// A caller's pass over all ranks, in plan order or in its reverse.
+fn pass(board: &Countdown, seat: &mut CountSeat, is_first: bool)
+    requires { IsIdle board.now seat.old }
+    ensures { IsBack board.now seat.old seat.new }
+{
+    let len = board.plan().len();
+    for k in 0..len {
+        let rank = if is_first { k } else { len - 1 - k };
+        fill_if_free(board, seat, rank);
+    }
+}
+
+/// The passes of the callers, each in a thread of its own: the first in plan order, the other in its reverse.
+fn pass_at_once<R: Threads + Sync>(rt: &R, board: &Countdown, seats: &mut [CountSeat], start: &Pair)
+    requires { EachAt (IsIdle board.now) seats.old }
+    ensures len { length seats.new ≡ length seats.old }
+    ensures back { PairsAt (IsBack board.now) seats.old seats.new }
+{
+    thread::for_each_mut(
+        rt,
+        seats,
+        2,
+        &|at, seat| {
+            start.meet(at == 0);
+            pass(board, seat, at == 0)
+        },
+    );
+}
+
+/// The passes, and a sweep behind them.
+fn pass_and_sweep<R: Threads + Sync>(
+    rt: &R,
+    board: &Countdown,
+    seats: &mut [CountSeat],
+    start: &Pair,
+)
+    requires seats { AreAll board.now seats.old }
+    ensures all { AreAll board.now seats.new }
+    ensures len { length seats.new ≡ length seats.old }
+{
+    pass_at_once(rt, board, seats, start);
+    sweep(board, seats);
+}
+
+/// Closes a board behind that.
+fn close_passed<R: Threads + Sync>(
+    rt: &R,
+    board: Countdown,
+    mut seats: Vec<CountSeat>,
+    start: &Pair,
+) -> Closed
+    requires { AreAll board seats.items }
+{
+    pass_and_sweep(rt, &board, seats.as_mut_slice(), start);
+    board.close(seats)
+}
+
+/// Whether two callers who begin together leave the table of one thread, and receipts with each rank once.
+fn fill_in_opposite_orders<R: Threads + Sync>(rt: &R, alloc: Global) -> Option<bool> {
+    let (board, seats) = board_of_two(alloc, wk(alloc, 9)?, 6, 76)?;
+    let start = Pair::new();
+    let filled = is_filled(alloc, &close_passed(rt, board, seats, &start))?;
+    Some(filled && start.met())
+}
+
+#[test]
+fn two_callers_in_opposite_orders(rt: HostRuntime) {
+    for _ in 0..16u8 {
+        assert!(rt; fill_in_opposite_orders(&rt, rt.alloc()) == Some(true));
+    }
 }
 
 /// Looks at a cell until it is filled, for so many turns at most.
@@ -240,22 +498,20 @@ fn sees<B: Cells>(board: &B, seat: &mut B::Seat, rank: u32) -> bool
     false
 }
 
-#[test]
-fn a_level_is_seen_while_others_are_filled(rt: HostRuntime) -> Result<(), Fail> {
-    let alloc = rt.alloc();
-    let plan = plan_of(alloc, wk_2(alloc)?, 2)?;
-    if plan.len() == 0 {
-        return Err(Fail::from("no cells"));
-    }
-    let Ok((board, filler, mut seats)) = Frontier::make(alloc, plan, 1) else {
-        return Err(Fail::from("board"));
-    };
-    let Some(mut seat) = seats.pop() else {
-        return Err(Fail::from("seat"));
-    };
-    let (board, seat) = (&board, &mut seat);
+/// Whether a look beside a crew of one finds rank 0 filled, and the crew publishes both levels.
+fn sees_a_level<R: Threads + Sync>(
+    rt: &R,
+    alloc: Global,
+    board: &Frontier,
+    filler: FillSeat,
+    seat: &mut LevelSeat,
+) -> bool
+    requires filler { IsFiller board.now filler }
+    requires seat { IsAsker board.now seat.old }
+    requires some { 0 < cells board.now.plan }
+{
     let (filler, seen) = level_beside(
-        &rt,
+        rt,
         alloc,
         board,
         filler,
@@ -264,6 +520,21 @@ fn a_level_is_seen_while_others_are_filled(rt: HostRuntime) -> Result<(), Fail> 
             requires { IsAsker board.now seat.now × (0 < cells board.now.plan) }
         { sees(board, seat, 0) },
     );
-    assert!(rt; seen && filler.published() == 2);
-    Ok(())
+    seen && filler.published() == 2
+}
+
+fn a_level_is_seen<R: Threads + Sync>(rt: &R, alloc: Global) -> Option<bool> {
+    let plan = planned(alloc, wk(alloc, 3)?, 2, 5)?;
+    let Ok((board, filler, mut seats)) = Frontier::make(alloc, plan, 1) else {
+        return None;
+    };
+    let Some(mut seat) = seats.pop() else {
+        return None;
+    };
+    Some(sees_a_level(rt, alloc, &board, filler, &mut seat))
+}
+
+#[test]
+fn a_level_is_seen_while_others_are_filled(rt: HostRuntime) {
+    assert!(rt; a_level_is_seen(&rt, rt.alloc()) == Some(true));
 }

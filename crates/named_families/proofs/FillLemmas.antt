@@ -1,6 +1,6 @@
 -- Filling the tensors of an exact law place by place.
 use Rattle.std.proofs.Common.{◌≡◌, ℕ, suc, ◌+◌, ◌*◌, ◌<◌, ◌≤◌, ◌⊎◌, inl, inr, Bool, true, false, ◌&&◌, cond, eqb, [], refl, sym, ap, ap₂, subst, ◌∙◌, arith, pos, ◌-ℤ◌}
-use Rattle.std.specs.Prelude.{min, max, Result, Ok, Err, IfErr, OnOk}
+use Rattle.std.specs.Prelude.{min, max, Result, Ok, Err, OnOk}
 use Rattle.std.proofs.lemmas.Int.{ints}
 use Rattle.std.proofs.lemmas.Bool.{cases_eq, cases_lt, eq-eqb}
 use Rattle.airy_math.specs.Shapes.{per_g, per_n}
@@ -9,8 +9,6 @@ use Rattle.airy_math.specs.Rational.{ℚ, whole, ◌/ℚ◌, lowest_zero, lowest
 use Rattle.airy_math.specs.RationalLaws.{0ℚ, 1ℚ}
 use Rattle.airy_math.specs.Sums.{when}
 use Rattle.airy_math.specs.Tensors.{is_zero}
-use Rattle.sparse_tensor.specs.declared.tensors.PutErr.{PutErr}
-use Rattle.sparse_tensor.specs.declared.tensors.PutErr.TheVariants as puts
 use Rattle.sparse_tensor.specs.Entries.{Entry, Entries, looked_up, value_of, with_entry, with_value}
 use Rattle.sparse_tensor.specs.Grades.{AreEntries, keeps, keeps_b, keeps_c, keeps_d}
 use Rattle.sparse_tensor.specs.Puts.{Free, putting_b, putting_c, putting_d, with_b, with_c, with_d}
@@ -20,14 +18,6 @@ use Rattle.sparse_tensor.proofs.PutFacts.{puts_b, puts_c, puts_d, putting_b-free
 use Rattle.named_families.specs.Exact.{exact_shape, exact_b, exact_c, exact_d, is_done, FillsB, FillsC, FillsD}
 
 -- ---- answers
-
--- an answer that is none of the other refusals
-pub wanting : (R : Result Unit PutErr) → (R ≡ Err puts.Index → ⊥) → (R ≡ Err puts.Grade → ⊥) → (R ≡ Err puts.Twice → ⊥) → IfErr R (λ e. e ≡ puts.NoMemory)
-wanting (Ok x) i g t = tt
-wanting (Err puts.Index) i g t = absurd (i refl)
-wanting (Err puts.Grade) i g t = absurd (g refl)
-wanting (Err puts.Twice) i g t = absurd (t refl)
-wanting (Err puts.NoMemory) i g t = refl
 
 -- two facts of one answer
 pub on_ok_both : {T E : Type 0} (P Q : Type 0) (R : Result T E) → OnOk R P → OnOk R Q → OnOk R (P × Q)
@@ -306,9 +296,6 @@ unfolding FillsD exact_d
 skip-d s t none h = λ i p. no_d t i none ∙ sym (when-false (eqb i s) (pos 1 /ℚ 8) (different i s (λ e. omega arith)))
 
 -- ---- what a put leaves
-
-pub at_ok : {P : Type 0} (R : Result Unit PutErr) → R ≡ Ok tt → OnOk R P → P
-at_ok {P = P} R e h = let at : OnOk {T = Unit} {E = PutErr} (Ok tt) P = subst (λ Q. OnOk Q P) e h in at
 
 pub others-b : (t : Entries) (i j k : ℕ) (v : ℚ) → with_b t i j k v ≡ record t { b = (with_b t i j k v).b }
 unfolding with_b

@@ -8,29 +8,9 @@ use Rattle.airy_math.specs.Tensors.{is_zero}
 use Rattle.airy_math.proofs.PivotLemmas.{zero_number}
 use Rattle.sparse_tensor.specs.Entries.{Entries, looked_up, value_at}
 use Rattle.sparse_tensor.specs.Grades.{AreEntries, keeps_b, keeps_c}
-use Rattle.sparse_tensor.specs.Puts.{Putting, Outside, Nothing, Ungraded, Taken, Free, putting, are_inside, putting_b, putting_c, with_b, with_c}
+use Rattle.sparse_tensor.specs.Puts.{IsAllowed, putting_b, putting_c, with_b, with_c}
 use Rattle.sparse_tensor.proofs.PutLaw.{with_b-zero, with_c-zero}
-use Rattle.sparse_tensor.proofs.PutFacts.{PutsB, PutsC, puts_b, puts_c, putting_b-free, putting_c-free, same_ordered, same_unordered}
-
--- The put is not refused.
-pub record IsAllowed (p : Putting) : Type 0 where
-  pub inside : p ≡ Outside → ⊥
-  pub graded : p ≡ Ungraded → ⊥
-  pub once : p ≡ Taken → ⊥
-
-allowed-free : (p : Putting) → p ≡ Free → IsAllowed p
-allowed-free p e = record { inside = λ h. cc; graded = λ h. cc; once = λ h. cc }
-
-allowed-nothing : (p : Putting) → p ≡ Nothing → IsAllowed p
-allowed-nothing p e = record { inside = λ h. cc; graded = λ h. cc; once = λ h. cc }
-
-nothing : (inside zero graded taken : Bool) → inside ≡ true → zero ≡ true → putting inside zero graded taken ≡ Nothing
-unfolding putting
-nothing inside zero graded taken p q = rw (p, q) refl
-
-inside : (dim i j k : ℕ) → i < dim → j < dim → k < dim → are_inside dim i j k ≡ true
-unfolding are_inside
-inside dim i j k p q r = grind (arith, nat_tests)
+use Rattle.sparse_tensor.proofs.PutFacts.{PutsB, PutsC, allowed_b, allowed_c, allowed_free, puts_b, puts_c, putting_b-free, putting_c-free, same_ordered, same_unordered}
 
 pub ordered_parts : (a b c i j k : ℕ) → same_ordered a b c i j k ≡ true → (a ≡ i) × (b ≡ j) × (c ≡ k)
 unfolding same_ordered
@@ -62,9 +42,9 @@ put_b t i j k v sound p q r graded zero = by (is_zero v) refl
     by : (z : Bool) → is_zero v ≡ z → PutB t i j k v
     by false e =
         let free = putting_b-free t i j k v sound p q r e graded zero in
-        record { allowed = allowed-free _ free; left = puts_b t i j k v free }
+        record { allowed = allowed_free _ free; left = puts_b t i j k v free }
     by true e = record {
-      allowed = allowed-nothing _ (nothing _ _ _ _ (inside t.dim i j k p q r) e);
+      allowed = allowed_b t i j k v sound p q r graded zero;
       left = subst (λ u. PutsB (looked_up t) (looked_up u) i j k v) (with_b-zero t i j k v e) (record {
         dim = refl;
         shape = refl;
@@ -89,9 +69,9 @@ put_c t i j k v sound p q r graded zero = by (is_zero v) refl
     by : (z : Bool) → is_zero v ≡ z → PutC t i j k v
     by false e =
         let free = putting_c-free t i j k v sound p q r e graded zero in
-        record { allowed = allowed-free _ free; left = puts_c t i j k v free }
+        record { allowed = allowed_free _ free; left = puts_c t i j k v free }
     by true e = record {
-      allowed = allowed-nothing _ (nothing _ _ _ _ (inside t.dim i j k p q r) e);
+      allowed = allowed_c t i j k v sound p q r graded zero;
       left = subst (λ u. PutsC (looked_up t) (looked_up u) i j k v) (with_c-zero t i j k v e) (record {
         dim = refl;
         shape = refl;

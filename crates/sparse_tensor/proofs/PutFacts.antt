@@ -1,14 +1,15 @@
 -- Puts for callers: when a place is free, and what the tensors are after a put.
-use Rattle.std.proofs.Common.{◌≡◌, ℕ, ◌<◌, Bool, true, false, ◌&&◌, cond, ltb, eqb, List, [], ◌∷◌, refl, arith}
-use Rattle.std.specs.Prelude.{min, max}
+use Rattle.std.proofs.Common.{◌≡◌, ℕ, ◌<◌, Bool, true, false, ◌&&◌, cond, ltb, eqb, List, [], ◌∷◌, refl, sym, subst, arith}
+use Rattle.std.specs.Prelude.{min, max, Result, Ok, OnOk}
 use Rattle.std.proofs.lemmas.Bool.Decides.{nat_tests}
 use Rattle.airy_math.specs.Rational.{ℚ}
 use Rattle.airy_math.specs.RationalLaws.{0ℚ}
 use Rattle.airy_math.specs.Tensors as math
 use Rattle.airy_math.specs.Tensors.{is_zero}
+use Rattle.sparse_tensor.specs.declared.tensors.PutErr.{PutErr}
 use Rattle.sparse_tensor.specs.Entries.{Entry, Entries, looked_up, same_place, value_at, is_taken, value_of, is_given}
 use Rattle.sparse_tensor.specs.Grades.{AreStored, AreStoredByIndex, AreEntries, keeps_a, keeps_b, keeps_c, keeps_d}
-use Rattle.sparse_tensor.specs.Puts.{Free, putting, are_inside, putting_a, putting_b, putting_c, putting_d, with_a, with_b, with_c, with_d}
+use Rattle.sparse_tensor.specs.Puts.{Putting, Free, IsAllowed, putting, are_inside, putting_a, putting_b, putting_c, putting_d, with_a, with_b, with_c, with_d}
 use Rattle.sparse_tensor.proofs.EntryLemmas.{value_at-with_entry, value_of-with_value}
 
 -- ---- a place that holds 0 is free
@@ -84,6 +85,40 @@ putting_d-free t i v h p some graded zero =
     let within : ltb i t.dim ≡ true = grind (arith, nat_tests) in
     let free = not_given_from_zero (keeps_d t.shape) t.dim t.d i h.d_stored zero in
     rw (within, some, graded, free) refl
+
+-- ---- a put that no check refuses
+
+pub allowed_free : (p : Putting) → p ≡ Free → IsAllowed p
+allowed_free p e = subst IsAllowed (sym e) (unfold IsAllowed in tt)
+
+allowed : (inside zero graded taken : Bool) → inside ≡ true → graded ≡ true → taken ≡ false → IsAllowed (putting inside zero graded taken)
+unfolding putting IsAllowed
+allowed inside true graded taken p q r = rw p tt
+allowed inside false graded taken p q r = rw (p, q, r) tt
+
+pub allowed_a : (t : Entries) (i j k : ℕ) (v : ℚ) → AreEntries t → i < t.dim → j < t.dim → k < t.dim → keeps_a t.shape i j k ≡ true → (looked_up t).A i j k ≡ 0ℚ → IsAllowed (putting_a t i j k v)
+unfolding putting_a looked_up
+allowed_a t i j k v h p q r graded zero =
+    allowed _ (is_zero v) _ _ (inside t.dim i j k p q r) graded (free_from_zero (keeps_a t.shape) t.dim t.a i (min j k) (max j k) h.a_stored zero)
+
+pub allowed_b : (t : Entries) (i j k : ℕ) (v : ℚ) → AreEntries t → i < t.dim → j < t.dim → k < t.dim → keeps_b t.shape i j k ≡ true → (looked_up t).B i j k ≡ 0ℚ → IsAllowed (putting_b t i j k v)
+unfolding putting_b looked_up
+allowed_b t i j k v h p q r graded zero =
+    allowed _ (is_zero v) _ _ (inside t.dim i j k p q r) graded (free_from_zero (keeps_b t.shape) t.dim t.b i j k h.b_stored zero)
+
+pub allowed_c : (t : Entries) (i j k : ℕ) (v : ℚ) → AreEntries t → i < t.dim → j < t.dim → k < t.dim → keeps_c t.shape i j k ≡ true → (looked_up t).C i j k ≡ 0ℚ → IsAllowed (putting_c t i j k v)
+unfolding putting_c looked_up
+allowed_c t i j k v h p q r graded zero =
+    allowed _ (is_zero v) _ _ (inside t.dim i j k p q r) graded (free_from_zero (keeps_c t.shape) t.dim t.c i (min j k) (max j k) h.c_stored zero)
+
+pub allowed_d : (t : Entries) (i : ℕ) (v : ℚ) → AreEntries t → i < t.dim → keeps_d t.shape i ≡ true → (looked_up t).D i ≡ 0ℚ → IsAllowed (putting_d t i v)
+unfolding putting_d looked_up
+allowed_d t i v h p graded zero =
+    allowed _ (is_zero v) _ _ (grind (arith, nat_tests)) graded (not_given_from_zero (keeps_d t.shape) t.dim t.d i h.d_stored zero)
+
+-- what holds where a put is done
+pub at_ok : {P : Type 0} (R : Result Unit PutErr) → R ≡ Ok tt → OnOk R P → P
+at_ok {P = P} R e h = let at : OnOk {T = Unit} {E = PutErr} (Ok tt) P = subst (λ Q. OnOk Q P) e h in at
 
 -- ---- what the tensors are after a put
 

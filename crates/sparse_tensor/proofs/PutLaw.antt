@@ -1,6 +1,6 @@
 -- What a put answers and leaves.
 use Rattle.std.proofs.Common.{◌≡◌, ℕ, ◌<◌, ◌⊎◌, inl, inr, Bool, true, false, not, ltb, List, refl, sym, ap, subst, ◌∙◌, arith, ◌↔◌, pos, ◌*ℤ◌, ◌-ℤ◌}
-use Rattle.std.specs.Prelude.{min, max, Result, Ok, Err, IfOk, OnOk, OnErr, IsOk, IsErrOf, if◌then◌else◌}
+use Rattle.std.specs.Prelude.{min, max, Result, Ok, Err, IfOk, IfErr, OnOk, OnErr, IsOk, IsErrOf, if◌then◌else◌}
 use Rattle.std.specs.declared.alloc.AllocError.{AllocError}
 use Rattle.std.proofs.lemmas.Bool.Decides.{nat_tests}
 use Rattle.airy_math.specs.Rational.{ℚ}
@@ -12,7 +12,7 @@ use Rattle.sparse_tensor.specs.declared.tensors.PutErr.{PutErr}
 use Rattle.sparse_tensor.specs.declared.tensors.PutErr.TheVariants as puts
 use Rattle.sparse_tensor.specs.Entries.{Entry, Entries, is_taken, is_given, with_entry, with_value}
 use Rattle.sparse_tensor.specs.Grades.{keeps, keeps_a, keeps_b, keeps_c, keeps_d, AreEntries}
-use Rattle.sparse_tensor.specs.Puts.{Putting, Outside, Nothing, Ungraded, Taken, putting, are_inside, with_a, with_b, with_c, with_d}
+use Rattle.sparse_tensor.specs.Puts.{Putting, Outside, Nothing, Ungraded, Taken, IsAllowed, putting, are_inside, with_a, with_b, with_c, with_d}
 use Rattle.sparse_tensor.specs.Rows.{Places}
 use Rattle.sparse_tensor.specs.Parts.{gathered, AreParts, checked, answered}
 use Rattle.sparse_tensor.proofs.EntryLemmas.{ascending-with_entry, stored-with_entry, ordered-with_entry, stored-with_value, in_range-with_entry, range_fact-with_value}
@@ -27,30 +27,31 @@ pub record IsAnswer (R : Result Unit PutErr) (p : Putting) : Type 0 where
   pub grade : IsErrOf R puts.Grade ↔ (p ≡ Ungraded)
   pub twice : IsErrOf R puts.Twice ↔ (p ≡ Taken)
   pub nothing : p ≡ Nothing → IsOk R
+  pub allowed : IsAllowed p → IfErr R (λ e. e ≡ puts.NoMemory)
 
 outside : (zero graded taken : Bool) → IsAnswer (Err puts.Index) (putting false zero graded taken)
-unfolding putting
-outside zero graded taken = record { index = (λ h. refl, λ h. refl); grade = (λ h. cc, λ h. cc); twice = (λ h. cc, λ h. cc); nothing = λ h. cc }
+unfolding putting IsAllowed
+outside zero graded taken = record { index = (λ h. refl, λ h. refl); grade = (λ h. cc, λ h. cc); twice = (λ h. cc, λ h. cc); nothing = λ h. cc; allowed = λ h. absurd h }
 
 nothing : (graded taken : Bool) → IsAnswer (Ok tt) (putting true true graded taken)
-unfolding putting
-nothing graded taken = record { index = (λ h. cc, λ h. cc); grade = (λ h. cc, λ h. cc); twice = (λ h. cc, λ h. cc); nothing = λ h. refl }
+unfolding putting IsAllowed
+nothing graded taken = record { index = (λ h. cc, λ h. cc); grade = (λ h. cc, λ h. cc); twice = (λ h. cc, λ h. cc); nothing = λ h. refl; allowed = λ h. tt }
 
 ungraded : (taken : Bool) → IsAnswer (Err puts.Grade) (putting true false false taken)
-unfolding putting
-ungraded taken = record { index = (λ h. cc, λ h. cc); grade = (λ h. refl, λ h. refl); twice = (λ h. cc, λ h. cc); nothing = λ h. cc }
+unfolding putting IsAllowed
+ungraded taken = record { index = (λ h. cc, λ h. cc); grade = (λ h. refl, λ h. refl); twice = (λ h. cc, λ h. cc); nothing = λ h. cc; allowed = λ h. absurd h }
 
 twice : IsAnswer (Err puts.Twice) (putting true false true true)
-unfolding putting
-twice = record { index = (λ h. cc, λ h. cc); grade = (λ h. cc, λ h. cc); twice = (λ h. refl, λ h. refl); nothing = λ h. cc }
+unfolding putting IsAllowed
+twice = record { index = (λ h. cc, λ h. cc); grade = (λ h. cc, λ h. cc); twice = (λ h. refl, λ h. refl); nothing = λ h. cc; allowed = λ h. absurd h }
 
 free-put : IsAnswer (Ok tt) (putting true false true false)
-unfolding putting
-free-put = record { index = (λ h. cc, λ h. cc); grade = (λ h. cc, λ h. cc); twice = (λ h. cc, λ h. cc); nothing = λ h. refl }
+unfolding putting IsAllowed
+free-put = record { index = (λ h. cc, λ h. cc); grade = (λ h. cc, λ h. cc); twice = (λ h. cc, λ h. cc); nothing = λ h. refl; allowed = λ h. tt }
 
 free-wanting : IsAnswer (Err puts.NoMemory) (putting true false true false)
-unfolding putting
-free-wanting = record { index = (λ h. cc, λ h. cc); grade = (λ h. cc, λ h. cc); twice = (λ h. cc, λ h. cc); nothing = λ h. cc }
+unfolding putting IsAllowed
+free-wanting = record { index = (λ h. cc, λ h. cc); grade = (λ h. cc, λ h. cc); twice = (λ h. cc, λ h. cc); nothing = λ h. cc; allowed = λ h. refl }
 
 -- the answer of a refusal
 pub refused : (inside zero graded taken : Bool) (e : PutErr) (R : Result Unit PutErr) → checked inside zero graded ≡ Err e → R ≡ Err e → IsAnswer R (putting inside zero graded taken)

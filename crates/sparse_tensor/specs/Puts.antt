@@ -15,6 +15,14 @@ pub data Putting : Type 0 where
   Taken : Putting
   Free : Putting
 
+-- no check refuses the put
+unfoldable pub IsAllowed : Putting → Type 0
+IsAllowed Outside = ⊥
+IsAllowed Nothing = Unit
+IsAllowed Ungraded = ⊥
+IsAllowed Taken = ⊥
+IsAllowed Free = Unit
+
 unfoldable pub putting : Bool → Bool → Bool → Bool → Putting
 putting inside zero graded taken = cond inside (cond zero Nothing (cond graded (cond taken Taken Free) Ungraded)) Outside
 

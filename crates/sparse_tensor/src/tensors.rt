@@ -1,8 +1,8 @@
-ghost use Rattle.std.specs.Prelude.{◌≡◌, ◌≤◌, ◌<◌, ◌↔◌, true, IsTrue, IsOk, OnOk, OnErr, IfOk, IsErrOf};
+ghost use Rattle.std.specs.Prelude.{◌≡◌, ◌≤◌, ◌<◌, ◌↔◌, true, IsTrue, IsOk, OnOk, OnErr, IfOk, IfErr, IsErrOf};
 ghost use Rattle.sparse_tensor.specs.Entries.{looked_up, no_entries};
 ghost use Rattle.sparse_tensor.specs.Grades.{IsSmallLaw, IsAtMost, AreSound};
 ghost use Rattle.sparse_tensor.specs.Parts.{checked, answered};
-ghost use Rattle.sparse_tensor.specs.Puts.{are_inside, putting_a, putting_b, putting_c, putting_d, Outside, Nothing, Ungraded, Taken, with_a, with_b, with_c, with_d};
+ghost use Rattle.sparse_tensor.specs.Puts.{are_inside, putting_a, putting_b, putting_c, putting_d, Outside, Nothing, Ungraded, Taken, IsAllowed, with_a, with_b, with_c, with_d};
 ghost use Rattle.airy_math.specs.Tensors.{is_zero, row_b, row_c};
 ghost use Rattle.airy_math.specs.Obtained.{IsInRange};
 
@@ -124,6 +124,7 @@ impl Tensors {
         ensures grade { IsErrOf result PutErr.Grade ↔ (putting_a self.old i j k v ≡ Ungraded) }
         ensures twice { IsErrOf result PutErr.Twice ↔ (putting_a self.old i j k v ≡ Taken) }
         ensures nothing { putting_a self.old i j k v ≡ Nothing → IsOk result }
+        ensures allowed { IsAllowed (putting_a self.old i j k v) → IfErr result (λ e. e ≡ PutErr.NoMemory) }
         ensures put { OnOk result (self.new ≡ with_a self.old i j k v) }
         ensures same { OnErr result (self.new ≡ self.old) }
     {
@@ -140,6 +141,7 @@ impl Tensors {
         ensures grade { IsErrOf result PutErr.Grade ↔ (putting_b self.old i j k v ≡ Ungraded) }
         ensures twice { IsErrOf result PutErr.Twice ↔ (putting_b self.old i j k v ≡ Taken) }
         ensures nothing { putting_b self.old i j k v ≡ Nothing → IsOk result }
+        ensures allowed { IsAllowed (putting_b self.old i j k v) → IfErr result (λ e. e ≡ PutErr.NoMemory) }
         ensures put { OnOk result (self.new ≡ with_b self.old i j k v) }
         ensures same { OnErr result (self.new ≡ self.old) }
     {
@@ -156,6 +158,7 @@ impl Tensors {
         ensures grade { IsErrOf result PutErr.Grade ↔ (putting_c self.old i j k v ≡ Ungraded) }
         ensures twice { IsErrOf result PutErr.Twice ↔ (putting_c self.old i j k v ≡ Taken) }
         ensures nothing { putting_c self.old i j k v ≡ Nothing → IsOk result }
+        ensures allowed { IsAllowed (putting_c self.old i j k v) → IfErr result (λ e. e ≡ PutErr.NoMemory) }
         ensures put { OnOk result (self.new ≡ with_c self.old i j k v) }
         ensures same { OnErr result (self.new ≡ self.old) }
     {
@@ -172,6 +175,7 @@ impl Tensors {
         ensures grade { IsErrOf result PutErr.Grade ↔ (putting_d self.old i v ≡ Ungraded) }
         ensures twice { IsErrOf result PutErr.Twice ↔ (putting_d self.old i v ≡ Taken) }
         ensures nothing { putting_d self.old i v ≡ Nothing → IsOk result }
+        ensures allowed { IsAllowed (putting_d self.old i v) → IfErr result (λ e. e ≡ PutErr.NoMemory) }
         ensures put { OnOk result (self.new ≡ with_d self.old i v) }
         ensures same { OnErr result (self.new ≡ self.old) }
     {

@@ -1,18 +1,20 @@
 -- The lines of entries are read as these entries, one behind the other.
-use Rattle.std.proofs.Common.{◌≡◌, ℕ, suc, ◌+◌, ◌<◌, ◌≤◌, Bool, false, List, [], ◌∷◌, ◌++◌, length, refl, sym, ap, ap₂, subst, ◌∙◌, arith, append_assoc, append-nil}
+use Rattle.std.proofs.Common.{◌≡◌, ℕ, suc, ◌+◌, ◌<◌, ◌≤◌, Bool, true, false, List, [], ◌∷◌, ◌++◌, length, refl, ap, ap₂, ◌∙◌, arith, append_assoc, append-nil}
 use Rattle.std.specs.Prelude.{min, max, decimal, codes}
 use Rattle.std.specs.List.{flat_map, AllByRecursion}
 use Rattle.std.proofs.lemmas.Bool.{false_from_ne_true, ne_eqb, le-ltb}
 use Rattle.airy_math.specs.Rational.{ℚ}
 use Rattle.airy_math.specs.RationalLaws.{0ℚ}
+use Rattle.airy_math.specs.declared.Shape.{Shape}
 use Rattle.airy_math.specs.Obtained.{IsInRange}
 use Rattle.frac128.specs.Fraction.{fraction_text}
 use Rattle.sparse_tensor.specs.Entries.{Entries, Entry, is_taken, is_given, place_before, with_entry, with_value}
+use Rattle.sparse_tensor.specs.Grades.{keeps_d}
 use Rattle.sparse_tensor.specs.Puts.{with_a, with_b, with_c, with_d}
 use Rattle.tensor_text.specs.declared.letters.Letter.{Letter}
 use Rattle.tensor_text.specs.declared.letters.Letter.TheVariants.{A, B, C}
 use Rattle.tensor_text.specs.Lines.{lines}
-use Rattle.tensor_text.specs.Grammar.{Stored, counted, is_skipped, is_note, only_word, two_words, place_words, checked, stored, taken_in, with_in, place_line, index_line, letter_of, said_by, said, entries_from}
+use Rattle.tensor_text.specs.Grammar.{Stored, counted, is_skipped, is_note, only_word, two_words, place_words, checked, stored, keeps_in, taken_in, with_in, place_line, index_line, letter_of, said_by, said, entries_from}
 use Rattle.tensor_text.specs.Canonical.{letter_text, place_text, index_text}
 use Rattle.tensor_text.specs.Pieces.{first_in}
 use Rattle.tensor_text.proofs.PieceLaw.{number, number_at, Rise, number-behind, apart}
@@ -54,25 +56,27 @@ with_list A t es = record t { a = es }
 with_list B t es = record t { b = es }
 with_list C t es = record t { c = es }
 
-dim-with_list : (letter : Letter) (t : Entries) (es : List Entry) → (with_list letter t es).dim ≡ t.dim
-unfolding with_list
-dim-with_list A t es = refl
-dim-with_list B t es = refl
-dim-with_list C t es = refl
-
--- what the text of an entry needs to be read: indices below dim, and both numbers in range
-pub record IsReadable (dim : ℕ) (letter : Letter) (e : Entry) : Type 0 where
+-- what the text of an entry needs to be read: indices below dim, the grading kept, and both numbers in range
+pub record IsReadable (shape : Shape) (dim : ℕ) (letter : Letter) (e : Entry) : Type 0 where
   pub i : e.i < dim
   pub j : e.j < dim
   pub k : e.k < dim
   pub first : first_in letter e.j ≤ e.k
   pub some : e.v ≡ 0ℚ → ⊥
+  pub graded : keeps_in letter shape e.i e.j e.k ≡ true
   pub range : IsInRange e.v
+  pub small : dim ≤ 72
 
-place_read : (letter : Letter) (t : Entries) (e : Entry) → t.dim ≤ 72 → IsReadable t.dim letter e
-    → place_line letter t (decimal e.i ∷ decimal e.j ∷ decimal e.k ∷ fraction_text e.v ∷ []) ≡ stored (taken_in letter t e.i e.j e.k) e.v (with_in letter t e.i e.j e.k e.v)
+still_readable : (letter : Letter) (t : Entries) (es : List Entry) (e : Entry) → IsReadable t.shape t.dim letter e → IsReadable (with_list letter t es).shape (with_list letter t es).dim letter e
+unfolding with_list
+still_readable A t es e r = r
+still_readable B t es e r = r
+still_readable C t es e r = r
+
+place_read : (letter : Letter) (t : Entries) (e : Entry) → IsReadable t.shape t.dim letter e
+    → place_line letter t (decimal e.i ∷ decimal e.j ∷ decimal e.k ∷ fraction_text e.v ∷ []) ≡ stored true (taken_in letter t e.i e.j e.k) e.v (with_in letter t e.i e.j e.k e.v)
 unfolding place_line place_words two_words only_word checked
-place_read letter t e h r = rw (index_back t.dim e.i r.i h, index_back t.dim e.j r.j h, index_back t.dim e.k r.k h, value_back e.v r.range) refl
+place_read letter t e r = rw (index_back t.dim e.i r.i r.small, index_back t.dim e.j r.j r.small, index_back t.dim e.k r.k r.small, value_back e.v r.range, r.graded) refl
 
 letter_read : (letter : Letter) (t : Entries) (more : List (List ℕ)) → said t (letter_text letter ∷ more) ≡ place_line letter t more
 unfolding said said_by letter_of
@@ -80,9 +84,9 @@ letter_read A t more = refl
 letter_read B t more = refl
 letter_read C t more = refl
 
-stored_new : (taken : Bool) (v : ℚ) (t : Entries) → taken ≡ false → stored taken v t ≡ Stored t
+stored_new : (taken : Bool) (v : ℚ) (t : Entries) → (v ≡ 0ℚ → ⊥) → taken ≡ false → stored true taken v t ≡ Stored t
 unfolding stored
-stored_new taken v t e = rw e refl
+stored_new taken v t some e = rw (some_test v some, e) refl
 
 ordered_min : (j k : ℕ) → j ≤ k → (min j k ≡ j) × (max j k ≡ k)
 ordered_min j k h = (omega arith, omega arith)
@@ -100,26 +104,24 @@ with_last A t done e h some p q b = let m = ordered_min e.j e.k h in rw (some_te
 with_last B t done e h some p q b = rw (some_test e.v some, put-last e done p q b) refl
 with_last C t done e h some p q b = let m = ordered_min e.j e.k h in rw (some_test e.v some, m.0, m.1, put-last e done p q b) refl
 
-said_last : (letter : Letter) (t : Entries) (done : List Entry) (e : Entry) → t.dim ≤ 72 → IsReadable t.dim letter e → Below (number e) done
+said_last : (letter : Letter) (t : Entries) (done : List Entry) (e : Entry) → IsReadable t.shape t.dim letter e → Below (number e) done
     → said (with_list letter t done) (place_line_words letter e) ≡ Stored (with_list letter t (done ++ e ∷ []))
-said_last letter t done e h r b =
+said_last letter t done e r b =
     let u = with_list letter t done in
-    let d = dim-with_list letter t done in
-    let small : u.dim ≤ 72 = omega arith in
-    let readable : IsReadable u.dim letter e = subst (λ n. IsReadable n letter e) (sym d) r in
-    let j : e.j < 72 = omega (arith, r.j) in
-    let k : e.k < 72 = omega (arith, r.k) in
-    letter_read letter u _ ∙ place_read letter u e small readable ∙ stored_new _ e.v _ (taken_last letter t done e r.first b)
+    let j : e.j < 72 = omega (arith, r.j, r.small) in
+    let k : e.k < 72 = omega (arith, r.k, r.small) in
+    letter_read letter u _ ∙ place_read letter u e (still_readable letter t done e r) ∙ stored_new _ e.v _ r.some (taken_last letter t done e r.first b)
     ∙ ap Stored (with_last letter t done e r.first r.some j k b)
 
-letter_word : (letter : Letter) → Ink (letter_text letter) × (0 < length (letter_text letter))
-letter_word A = ((omega arith, tt), omega arith)
-letter_word B = ((omega arith, tt), omega arith)
-letter_word C = ((omega arith, tt), omega arith)
+letter_ink : (letter : Letter) → Ink (letter_text letter) × (0 < length (letter_text letter))
+letter_ink A = ((omega arith, tt), omega arith)
+letter_ink B = ((omega arith, tt), omega arith)
+letter_ink C = ((omega arith, tt), omega arith)
 
-words_of : (letter : Letter) (dim : ℕ) (e : Entry) → dim ≤ 72 → IsReadable dim letter e → AreWords (place_line_words letter e)
-words_of letter dim e h r =
-    (letter_word letter, (decimal_word e.i (omega (arith, r.i)), (decimal_word e.j (omega (arith, r.j)), (decimal_word e.k (omega (arith, r.k)), (fraction_word e.v r.range, tt)))))
+words_of : (letter : Letter) (shape : Shape) (dim : ℕ) (e : Entry) → IsReadable shape dim letter e → AreWords (place_line_words letter e)
+words_of letter shape dim e r =
+    let word : (n : ℕ) → n < dim → Ink (decimal n) × (0 < length (decimal n)) = λ n h. decimal_word n (omega (arith, h, r.small)) in
+    (letter_ink letter, (word e.i r.i, (word e.j r.j, (word e.k r.k, (fraction_word e.v r.range, tt)))))
 
 counts : (letter : Letter) (e : Entry) → is_skipped (place_line_words letter e) ≡ false
 unfolding is_skipped is_note
@@ -133,20 +135,20 @@ Below-weaken : (m n : ℕ) (es : List Entry) → m ≤ n → Below m es → Belo
 Below-weaken m n [] h b = tt
 Below-weaken m n (e ∷ es) h b = ((omega (arith, b.0.0), b.0.1, b.0.2), Below-weaken m n es h b.1)
 
-pub read_places : (letter : Letter) (t : Entries) (done es : List Entry) (m n : ℕ) (more : List ℕ) → t.dim ≤ 72 → Below m done → Rise m es → AllByRecursion (IsReadable t.dim letter) es
+pub read_places : (letter : Letter) (t : Entries) (done es : List Entry) (m n : ℕ) (more : List ℕ) → Below m done → Rise m es → AllByRecursion (IsReadable t.shape t.dim letter) es
     → entries_from (with_list letter t done) (counted n (lines (flat_map (place_text letter) es ++ more))) ≡ entries_from (with_list letter t (done ++ es)) (counted (n + length es) (lines more))
 unfolding Rise
-read_places letter t done [] m n more h b r p =
+read_places letter t done [] m n more b r p =
     let size : n + 0 ≡ n = omega arith in
     rw (append-nil done, size) refl
-read_places letter t done (e ∷ es) m n more h b r p =
+read_places letter t done (e ∷ es) m n more b r p =
     let text : (place_text letter e ++ flat_map (place_text letter) es) ++ more ≡ joined (place_line_words letter e) ++ 10 ∷ (flat_map (place_text letter) es ++ more) =
     append_assoc (place_text letter e) (flat_map (place_text letter) es) more ∙ place_is letter e (flat_map (place_text letter) es ++ more) in
-    let line = joined_line n (place_line_words letter e) (flat_map (place_text letter) es ++ more) (words_of letter t.dim e h p.0) (counts letter e) in
-    let here = said_last letter t done e h p.0 (Below-weaken m (number e) done r.0.0 b) in
-    let j : e.j < 72 = omega (arith, p.0.j) in
-    let k : e.k < 72 = omega (arith, p.0.k) in
-    let behind = read_places letter t (done ++ e ∷ []) es (suc (number e)) (suc n) more h (Below-push m e done j k r.0.0 b) r.1 p.1 in
+    let line = joined_line n (place_line_words letter e) (flat_map (place_text letter) es ++ more) (words_of letter t.shape t.dim e p.0) (counts letter e) in
+    let here = said_last letter t done e p.0 (Below-weaken m (number e) done r.0.0 b) in
+    let j : e.j < 72 = omega (arith, p.0.j, p.0.small) in
+    let k : e.k < 72 = omega (arith, p.0.k, p.0.small) in
+    let behind = read_places letter t (done ++ e ∷ []) es (suc (number e)) (suc n) more (Below-push m e done j k r.0.0 b) r.1 p.1 in
     let size : suc n + length es ≡ n + suc (length es) = omega arith in
     ap (λ x. entries_from (with_list letter t done) (counted n (lines x))) text
     ∙ entries_stored (with_list letter t done) (with_list letter t (done ++ e ∷ [])) n (place_line_words letter e) _ _ line here
@@ -184,17 +186,19 @@ BelowIndex-weaken : (m n : ℕ) (es : List (ℕ × ℚ)) → m ≤ n → BelowIn
 BelowIndex-weaken m n [] h b = tt
 BelowIndex-weaken m n (e ∷ es) h b = (omega (arith, b.0), BelowIndex-weaken m n es h b.1)
 
-pub record IsReadableAt (dim : ℕ) (e : ℕ × ℚ) : Type 0 where
+pub record IsReadableAt (shape : Shape) (dim : ℕ) (e : ℕ × ℚ) : Type 0 where
   pub i : e.0 < dim
   pub some : e.1 ≡ 0ℚ → ⊥
+  pub graded : keeps_d shape e.0 ≡ true
   pub range : IsInRange e.1
+  pub small : dim ≤ 72
 
 abbrev pub index_words : ℕ × ℚ → List (List ℕ)
 index_words e = codes "D" ∷ decimal e.0 ∷ fraction_text e.1 ∷ []
 
-index_read : (t : Entries) (e : ℕ × ℚ) → t.dim ≤ 72 → IsReadableAt t.dim e → said t (index_words e) ≡ stored (is_given t.d e.0) e.1 (with_d t e.0 e.1)
+index_read : (t : Entries) (e : ℕ × ℚ) → IsReadableAt t.shape t.dim e → said t (index_words e) ≡ stored true (is_given t.d e.0) e.1 (with_d t e.0 e.1)
 unfolding said said_by letter_of index_line two_words only_word checked
-index_read t e h r = rw (index_back t.dim e.0 r.i h, value_back e.1 r.range) refl
+index_read t e r = rw (index_back t.dim e.0 r.i r.small, value_back e.1 r.range, r.graded) refl
 
 with_last_value : (t : Entries) (done : List (ℕ × ℚ)) (e : ℕ × ℚ) → (e.1 ≡ 0ℚ → ⊥) → BelowIndex e.0 done → with_d (with_values t done) e.0 e.1 ≡ with_values t (done ++ e ∷ [])
 unfolding with_values with_d
@@ -204,36 +208,32 @@ taken_last_value : (t : Entries) (done : List (ℕ × ℚ)) (e : ℕ × ℚ) →
 unfolding with_values
 taken_last_value t done e b = free-last-value e done b
 
-dim-with_values : (t : Entries) (es : List (ℕ × ℚ)) → (with_values t es).dim ≡ t.dim
+still_readable_at : (t : Entries) (es : List (ℕ × ℚ)) (e : ℕ × ℚ) → IsReadableAt t.shape t.dim e → IsReadableAt (with_values t es).shape (with_values t es).dim e
 unfolding with_values
-dim-with_values t es = refl
+still_readable_at t es e r = r
 
-said_last_value : (t : Entries) (done : List (ℕ × ℚ)) (e : ℕ × ℚ) → t.dim ≤ 72 → IsReadableAt t.dim e → BelowIndex e.0 done → said (with_values t done) (index_words e) ≡ Stored (with_values t (done ++ e ∷ []))
-said_last_value t done e h r b =
-    let u = with_values t done in
-    let d = dim-with_values t done in
-    let small : u.dim ≤ 72 = omega arith in
-    let readable : IsReadableAt u.dim e = subst (λ n. IsReadableAt n e) (sym d) r in
-    index_read u e small readable ∙ stored_new _ e.1 _ (taken_last_value t done e b) ∙ ap Stored (with_last_value t done e r.some b)
+said_last_value : (t : Entries) (done : List (ℕ × ℚ)) (e : ℕ × ℚ) → IsReadableAt t.shape t.dim e → BelowIndex e.0 done → said (with_values t done) (index_words e) ≡ Stored (with_values t (done ++ e ∷ []))
+said_last_value t done e r b =
+    index_read (with_values t done) e (still_readable_at t done e r) ∙ stored_new _ e.1 _ r.some (taken_last_value t done e b) ∙ ap Stored (with_last_value t done e r.some b)
 
 index_counts : (e : ℕ × ℚ) → is_skipped (index_words e) ≡ false
 unfolding is_skipped is_note
 index_counts e = refl
 
-index_words_are : (dim : ℕ) (e : ℕ × ℚ) → dim ≤ 72 → IsReadableAt dim e → AreWords (index_words e)
-index_words_are dim e h r = (((omega arith, tt), omega arith), (decimal_word e.0 (omega (arith, r.i)), (fraction_word e.1 r.range, tt)))
+index_words_are : (shape : Shape) (dim : ℕ) (e : ℕ × ℚ) → IsReadableAt shape dim e → AreWords (index_words e)
+index_words_are shape dim e r = (((omega arith, tt), omega arith), (decimal_word e.0 (omega (arith, r.i, r.small)), (fraction_word e.1 r.range, tt)))
 
-pub read_indices : (t : Entries) (done es : List (ℕ × ℚ)) (m n : ℕ) (more : List ℕ) → t.dim ≤ 72 → BelowIndex m done → Climb m es → AllByRecursion (IsReadableAt t.dim) es
+pub read_indices : (t : Entries) (done es : List (ℕ × ℚ)) (m n : ℕ) (more : List ℕ) → BelowIndex m done → Climb m es → AllByRecursion (IsReadableAt t.shape t.dim) es
     → entries_from (with_values t done) (counted n (lines (flat_map index_text es ++ more))) ≡ entries_from (with_values t (done ++ es)) (counted (n + length es) (lines more))
-read_indices t done [] m n more h b r p =
+read_indices t done [] m n more b r p =
     let size : n + 0 ≡ n = omega arith in
     rw (append-nil done, size) refl
-read_indices t done (e ∷ es) m n more h b r p =
+read_indices t done (e ∷ es) m n more b r p =
     let text : (index_text e ++ flat_map index_text es) ++ more ≡ joined (index_words e) ++ 10 ∷ (flat_map index_text es ++ more) =
     append_assoc (index_text e) (flat_map index_text es) more ∙ index_is e (flat_map index_text es ++ more) in
-    let line = joined_line n (index_words e) (flat_map index_text es ++ more) (index_words_are t.dim e h p.0) (index_counts e) in
-    let here = said_last_value t done e h p.0 (BelowIndex-weaken m e.0 done r.0 b) in
-    let behind = read_indices t (done ++ e ∷ []) es (suc e.0) (suc n) more h (BelowIndex-push m e done r.0 b) r.1 p.1 in
+    let line = joined_line n (index_words e) (flat_map index_text es ++ more) (index_words_are t.shape t.dim e p.0) (index_counts e) in
+    let here = said_last_value t done e p.0 (BelowIndex-weaken m e.0 done r.0 b) in
+    let behind = read_indices t (done ++ e ∷ []) es (suc e.0) (suc n) more (BelowIndex-push m e done r.0 b) r.1 p.1 in
     let size : suc n + length es ≡ n + suc (length es) = omega arith in
     ap (λ x. entries_from (with_values t done) (counted n (lines x))) text
     ∙ entries_stored (with_values t done) (with_values t (done ++ e ∷ [])) n (index_words e) _ _ line here

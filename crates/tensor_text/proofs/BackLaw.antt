@@ -1,41 +1,108 @@
 -- The grammar reads the canonical text of tensors as the same tensors.
-use Rattle.std.proofs.Common.{◌≡◌, ℕ, suc, ◌+◌, ◌<◌, ◌≤◌, Bool, false, List, [], ◌∷◌, ◌++◌, length, refl, sym, ap, subst, ◌∙◌, arith}
+use Rattle.std.proofs.Common.{◌≡◌, ℕ, suc, ◌+◌, ◌<◌, ◌≤◌, Bool, true, false, cond, List, [], ◌∷◌, ◌++◌, length, refl, ap, ◌∙◌, arith, append_assoc, Some}
 use Rattle.std.specs.Prelude.{decimal, codes}
+use Rattle.std.specs.Fmt.{signed_decimal}
 use Rattle.std.specs.List.{flat_map, AllByRecursion}
-use Rattle.std.proofs.lemmas.Bool.{false_from_ne_true}
 use Rattle.airy_math.specs.Rational.{ℚ}
-use Rattle.airy_math.specs.declared.Shape.TheVariants.{All}
+use Rattle.airy_math.specs.declared.Law.{Law}
+use Rattle.airy_math.specs.declared.Shape.{Shape}
+use Rattle.airy_math.specs.declared.Shape.TheVariants.{All, Exact, AtMost}
 use Rattle.sparse_tensor.specs.Entries.{Entries, Entry, no_entries}
-use Rattle.sparse_tensor.specs.Grades.{IsAtMost, IsAscendingByIndex, AreStored, AreOrdered, AreStoredByIndex, AreInRange, AreInRangeByIndex, AreEntries}
+use Rattle.sparse_tensor.specs.Grades.{IsSmallLaw, IsAtMost, IsAscendingByIndex, keeps_a, keeps_b, keeps_c, keeps_d, AreStored, AreOrdered, AreStoredByIndex, AreInRange, AreInRangeByIndex, AreEntries}
+use Rattle.tensor_text.specs.declared.letters.Letter.{Letter}
 use Rattle.tensor_text.specs.declared.letters.Letter.TheVariants.{A, B, C}
 use Rattle.tensor_text.specs.Lines.{lines, parts}
-use Rattle.tensor_text.specs.Grammar.{Read, Lines, Line, End, counted, is_skipped, is_note, only_word, is_version, is_header, dim_line, letter_of, end_line, said_by, said, after_end, then_read, entries_from, dim_read, dim_from, header_from, reading_of}
-use Rattle.tensor_text.specs.Canonical.{place_text, index_text, dim_text, canonical_text}
+use Rattle.tensor_text.specs.Grammar.{Read, Lines, Line, End, counted, is_skipped, is_note, only_word, two_words, version_of, header_line, dim_line, law_by, law_of, exact_shape, letter_given, at_most_by, at_most_shape, shape_words, shape_line, letter_of, keeps_in, end_line, said_by, said, after_end, then_read, entries_from, shape_read, shape_from, dim_read, dim_from, header_read, header_from, reading_of}
+use Rattle.tensor_text.specs.Canonical.{place_text, index_text, dim_text, header_text, shape_text, first_text, entries_text, canonical_text}
+use Rattle.tensor_text.specs.Pieces.{first_in}
 use Rattle.tensor_text.proofs.PieceLaw.{rises}
-use Rattle.tensor_text.proofs.BackValues.{dim_back}
-use Rattle.tensor_text.proofs.BackLines.{AreWords, joined_line, decimal_word, dim_is}
+use Rattle.tensor_text.proofs.BackValues.{dim_back, signed_back}
+use Rattle.tensor_text.proofs.BackLines.{AreWords, word_by_test, joined_line, decimal_word, law_are_words, law_words, letter_words, letter_are_words, dim_is, exact_is, at_most_is}
 use Rattle.tensor_text.proofs.BackEntries.{with_list, with_values, IsReadable, IsReadableAt, Climb, read_places, read_indices}
 
--- ---- the first two lines and the last
+-- ---- the header and the dim
 
-header_read : (rest : List ℕ) → header_from (counted 1 (lines (codes "airy 1\n" ++ rest))) ≡ dim_from (counted 2 (lines rest))
-unfolding header_from is_header only_word is_version is_skipped is_note
-header_read rest =
-    let are : AreWords (codes "airy" ∷ codes "1" ∷ []) = (((omega arith, (omega arith, (omega arith, (omega arith, tt)))), omega arith), (((omega arith, tt), omega arith), tt)) in
-    ap header_from (joined_line 1 (codes "airy" ∷ codes "1" ∷ []) rest are refl)
+version_1 : (rest : List ℕ) → header_from (counted 1 (lines (codes "airy 1\n" ++ rest))) ≡ dim_from false (counted 2 (lines rest))
+unfolding header_from header_read header_line version_of only_word is_skipped is_note
+version_1 rest = ap header_from (joined_line 1 (codes "airy" ∷ codes "1" ∷ []) rest (word_by_test (codes "airy") refl (omega arith), (word_by_test (codes "1") refl (omega arith), tt)) refl)
 
-dim_found : (dim : ℕ) (rest : Lines) → 0 < dim → dim ≤ 32 → dim_from (Line 2 (codes "dim" ∷ decimal dim ∷ []) rest) ≡ entries_from (no_entries dim All false) rest
+version_2 : (rest : List ℕ) → header_from (counted 1 (lines (codes "airy 2\n" ++ rest))) ≡ dim_from true (counted 2 (lines rest))
+unfolding header_from header_read header_line version_of only_word is_skipped is_note
+version_2 rest = ap header_from (joined_line 1 (codes "airy" ∷ codes "2" ∷ []) rest (word_by_test (codes "airy") refl (omega arith), (word_by_test (codes "2") refl (omega arith), tt)) refl)
+
+dim_found : (has_shape : Bool) (dim : ℕ) (rest : Lines) → 0 < dim → dim ≤ 32
+    → dim_from has_shape (Line 2 (codes "dim" ∷ decimal dim ∷ []) rest) ≡ cond has_shape (shape_from dim rest) (entries_from (no_entries dim All false) rest)
 unfolding dim_from dim_read dim_line only_word
-dim_found dim rest p h = rw (dim_back dim p h) refl
+dim_found has_shape dim rest p h = rw (dim_back dim p h) refl
 
 dim_counts : (dim : ℕ) → is_skipped (codes "dim" ∷ decimal dim ∷ []) ≡ false
 unfolding is_skipped is_note
 dim_counts dim = refl
 
-dim_is_read : (dim : ℕ) (rest : List ℕ) → 0 < dim → dim ≤ 32 → dim_from (counted 2 (lines (dim_text dim ++ rest))) ≡ entries_from (no_entries dim All false) (counted 3 (lines rest))
-dim_is_read dim rest p h =
-    let are : AreWords (codes "dim" ∷ decimal dim ∷ []) = (((omega arith, (omega arith, (omega arith, tt))), omega arith), (decimal_word dim (omega arith), tt)) in
-    ap (λ x. dim_from (counted 2 (lines x))) (dim_is dim rest) ∙ ap dim_from (joined_line 2 (codes "dim" ∷ decimal dim ∷ []) rest are (dim_counts dim)) ∙ dim_found dim (counted 3 (lines rest)) p h
+dim_is_read : (has_shape : Bool) (dim : ℕ) (rest : List ℕ) → 0 < dim → dim ≤ 32
+    → dim_from has_shape (counted 2 (lines (dim_text dim ++ rest))) ≡ cond has_shape (shape_from dim (counted 3 (lines rest))) (entries_from (no_entries dim All false) (counted 3 (lines rest)))
+dim_is_read has_shape dim rest p h =
+    let are : AreWords (codes "dim" ∷ decimal dim ∷ []) = (word_by_test (codes "dim") refl (omega arith), (decimal_word dim (omega arith), tt)) in
+    ap (λ x. dim_from has_shape (counted 2 (lines x))) (dim_is dim rest) ∙ ap (dim_from has_shape) (joined_line 2 (codes "dim" ∷ decimal dim ∷ []) rest are (dim_counts dim))
+    ∙ dim_found has_shape dim (counted 3 (lines rest)) p h
+
+-- ---- the shape line
+
+law_back : (l : Law) → IsSmallLaw (Exact l) → law_of (signed_decimal l.per_g) (signed_decimal l.per_n) ≡ Some l
+unfolding IsSmallLaw law_of law_by
+law_back l s = rw (signed_back l.per_g s.0 s.1, signed_back l.per_n s.2 s.3) refl
+
+exact_found : (dim : ℕ) (l : Law) (rest : Lines) → IsSmallLaw (Exact l) → shape_from dim (Line 3 (codes "shape" ∷ codes "exact" ∷ law_words l []) rest) ≡ entries_from (no_entries dim (Exact l) false) rest
+unfolding shape_from shape_read shape_line shape_words exact_shape two_words only_word
+exact_found dim l rest s = rw (law_back l s) refl
+
+at_most_found : (dim : ℕ) (l : Law) (letter : Bool) (rest : Lines) → IsSmallLaw (AtMost l)
+    → shape_from dim (Line 3 (codes "shape" ∷ codes "atmost" ∷ law_words l (letter_words letter)) rest) ≡ entries_from (no_entries dim (AtMost l) letter) rest
+unfolding IsSmallLaw shape_from shape_read shape_line shape_words at_most_shape at_most_by letter_given
+at_most_found dim l true rest s = rw (law_back l s) refl
+at_most_found dim l false rest s = rw (law_back l s) refl
+
+exact_counts : (l : Law) → is_skipped (codes "shape" ∷ codes "exact" ∷ law_words l []) ≡ false
+unfolding is_skipped is_note
+exact_counts l = refl
+
+at_most_counts : (l : Law) (more : List (List ℕ)) → is_skipped (codes "shape" ∷ codes "atmost" ∷ law_words l more) ≡ false
+unfolding is_skipped is_note
+at_most_counts l more = refl
+
+exact_is_read : (dim : ℕ) (l : Law) (rest : List ℕ) → IsSmallLaw (Exact l)
+    → shape_from dim (counted 3 (lines (shape_text (Exact l) false ++ rest))) ≡ entries_from (no_entries dim (Exact l) false) (counted 4 (lines rest))
+unfolding IsSmallLaw
+exact_is_read dim l rest s =
+    let are : AreWords (codes "shape" ∷ codes "exact" ∷ law_words l []) = (word_by_test (codes "shape") refl (omega arith), (word_by_test (codes "exact") refl (omega arith), law_are_words l [] s tt)) in
+    ap (λ x. shape_from dim (counted 3 (lines x))) (exact_is l rest) ∙ ap (shape_from dim) (joined_line 3 (codes "shape" ∷ codes "exact" ∷ law_words l []) rest are (exact_counts l))
+    ∙ exact_found dim l (counted 4 (lines rest)) s
+
+at_most_is_read : (dim : ℕ) (l : Law) (letter : Bool) (rest : List ℕ) → IsSmallLaw (AtMost l)
+    → shape_from dim (counted 3 (lines (shape_text (AtMost l) letter ++ rest))) ≡ entries_from (no_entries dim (AtMost l) letter) (counted 4 (lines rest))
+unfolding IsSmallLaw
+at_most_is_read dim l letter rest s =
+    let more = letter_words letter in
+    let are : AreWords (codes "shape" ∷ codes "atmost" ∷ law_words l more) = (word_by_test (codes "shape") refl (omega arith), (word_by_test (codes "atmost") refl (omega arith), law_are_words l more s (letter_are_words letter))) in
+    ap (λ x. shape_from dim (counted 3 (lines x))) (at_most_is l letter rest) ∙ ap (shape_from dim) (joined_line 3 (codes "shape" ∷ codes "atmost" ∷ law_words l more) rest are (at_most_counts l more))
+    ∙ at_most_found dim l letter (counted 4 (lines rest)) s
+
+-- ---- the first lines together, and the last
+
+-- the number of the line behind the first lines
+abbrev pub first_behind : Shape → ℕ
+first_behind All = 3
+first_behind (Exact l) = 4
+first_behind (AtMost l) = 4
+
+first_read : (s : Shape) (letter : Bool) (dim : ℕ) (rest : List ℕ) → 0 < dim → dim ≤ 32 → IsSmallLaw s → (letter ≡ true → IsAtMost s)
+    → header_from (counted 1 (lines (header_text s ++ (dim_text dim ++ (shape_text s letter ++ rest))))) ≡ entries_from (no_entries dim s letter) (counted (first_behind s) (lines rest))
+unfolding header_text shape_text IsAtMost
+first_read All true dim rest p h small most = absurd (most refl)
+first_read All false dim rest p h small most = version_1 _ ∙ dim_is_read false dim rest p h
+first_read (Exact l) true dim rest p h small most = absurd (most refl)
+first_read (Exact l) false dim rest p h small most = version_2 _ ∙ dim_is_read true dim _ p h ∙ exact_is_read dim l rest small
+first_read (AtMost l) letter dim rest p h small most = version_2 _ ∙ dim_is_read true dim _ p h ∙ at_most_is_read dim l letter rest small
 
 end_counted : (n : ℕ) → counted n (lines (codes "end\n")) ≡ Line n (codes "end" ∷ []) (End (suc n))
 unfolding is_skipped is_note counted lines parts
@@ -49,22 +116,26 @@ end_read t n = ap (entries_from t) (end_counted n)
 
 -- ---- stored entries are readable
 
-ordered_readable : (grade : ℕ → ℕ → ℕ → Bool) (dim : ℕ) (es : List Entry) → AreStored grade dim es → AreOrdered es → AreInRange es → AllByRecursion (IsReadable dim A) es × AllByRecursion (IsReadable dim C) es
-unfolding AreStored AreOrdered AreInRange
-ordered_readable grade dim [] s o r = (tt, tt)
-ordered_readable grade dim (e ∷ es) s o r =
-    let more = ordered_readable grade dim es s.1 o.1 r.1 in
-    ((record { i = s.0.0; j = s.0.1; k = s.0.2; first = o.0; some = s.0.3; range = r.0 }, more.0), (record { i = s.0.0; j = s.0.1; k = s.0.2; first = o.0; some = s.0.3; range = r.0 }, more.1))
+ordered : (es : List Entry) → AreOrdered es → AllByRecursion (λ e. e.j ≤ e.k) es
+unfolding AreOrdered
+ordered [] o = tt
+ordered (e ∷ es) o = (o.0, ordered es o.1)
 
-free_readable : (grade : ℕ → ℕ → ℕ → Bool) (dim : ℕ) (es : List Entry) → AreStored grade dim es → AreInRange es → AllByRecursion (IsReadable dim B) es
+unordered : (es : List Entry) → AllByRecursion (λ e. 0 ≤ e.k) es
+unordered [] = tt
+unordered (e ∷ es) = (omega arith, unordered es)
+
+readable : (letter : Letter) (shape : Shape) (dim : ℕ) (grade : ℕ → ℕ → ℕ → Bool) (es : List Entry) → dim ≤ 72 → ((i j k : ℕ) → grade i j k ≡ true → keeps_in letter shape i j k ≡ true)
+    → AreStored grade dim es → AllByRecursion (λ e. first_in letter e.j ≤ e.k) es → AreInRange es → AllByRecursion (IsReadable shape dim letter) es
 unfolding AreStored AreInRange
-free_readable grade dim [] s r = tt
-free_readable grade dim (e ∷ es) s r = (record { i = s.0.0; j = s.0.1; k = s.0.2; first = omega arith; some = s.0.3; range = r.0 }, free_readable grade dim es s.1 r.1)
+readable letter shape dim grade [] h keeps s o r = tt
+readable letter shape dim grade (e ∷ es) h keeps s o r =
+    (record { i = s.0.0; j = s.0.1; k = s.0.2; first = o.0; some = s.0.3; graded = keeps e.i e.j e.k s.0.4; range = r.0; small = h }, readable letter shape dim grade es h keeps s.1 o.1 r.1)
 
-indices_readable : (grade : ℕ → Bool) (dim : ℕ) (es : List (ℕ × ℚ)) → AreStoredByIndex grade dim es → AreInRangeByIndex es → AllByRecursion (IsReadableAt dim) es
+indices_readable : (shape : Shape) (dim : ℕ) (es : List (ℕ × ℚ)) → dim ≤ 72 → AreStoredByIndex (keeps_d shape) dim es → AreInRangeByIndex es → AllByRecursion (IsReadableAt shape dim) es
 unfolding AreStoredByIndex AreInRangeByIndex
-indices_readable grade dim [] s r = tt
-indices_readable grade dim (e ∷ es) s r = (record { i = s.0.0; some = s.0.1; range = r.0 }, indices_readable grade dim es s.1 r.1)
+indices_readable shape dim [] h s r = tt
+indices_readable shape dim (e ∷ es) h s r = (record { i = s.0.0; some = s.0.1; graded = s.0.2; range = r.0; small = h }, indices_readable shape dim es h s.1 r.1)
 
 climb_from : (n : ℕ) (x : ℕ × ℚ) (es : List (ℕ × ℚ)) → n ≤ x.0 → IsAscendingByIndex (x ∷ es) → Climb n (x ∷ es)
 unfolding IsAscendingByIndex
@@ -79,50 +150,59 @@ climbs (x ∷ es) a = climb_from 0 x es (omega arith) a
 
 -- the entries so far, after each kind of lines
 unfoldable read_so_far : Entries → List Entry → List Entry → List Entry → List (ℕ × ℚ) → Entries
-read_so_far t a b c d = record { dim = t.dim; shape = All; letter = false; a = a; b = b; c = c; d = d }
+read_so_far t a b c d = record { dim = t.dim; shape = t.shape; letter = t.letter; a = a; b = b; c = c; d = d }
 
-start_is : (t : Entries) → no_entries t.dim All false ≡ read_so_far t [] [] [] []
+start_is : (t : Entries) → no_entries t.dim t.shape t.letter ≡ read_so_far t [] [] [] []
 unfolding no_entries read_so_far
 start_is t = refl
 
 a_read : (t : Entries) (n : ℕ) (more : List ℕ) → AreEntries t → entries_from (read_so_far t [] [] [] []) (counted n (lines (flat_map (place_text A) t.a ++ more))) ≡ entries_from (read_so_far t t.a [] [] []) (counted (n + length t.a) (lines more))
-unfolding read_so_far with_list
-a_read t n more s = read_places A (read_so_far t [] [] [] []) [] t.a 0 n more s.most tt (rises _ t.dim t.a s.most s.a_ascends s.a_stored) (ordered_readable _ t.dim t.a s.a_stored s.a_ordered s.a_in_range).0
+unfolding read_so_far with_list keeps_in
+a_read t n more s =
+    read_places A (read_so_far t [] [] [] []) [] t.a 0 n more tt (rises _ t.dim t.a s.most s.a_ascends s.a_stored)
+    (readable A t.shape t.dim (keeps_a t.shape) t.a s.most (λ i j k h. h) s.a_stored (ordered t.a s.a_ordered) s.a_in_range)
 
 b_read : (t : Entries) (n : ℕ) (more : List ℕ) → AreEntries t → entries_from (read_so_far t t.a [] [] []) (counted n (lines (flat_map (place_text B) t.b ++ more))) ≡ entries_from (read_so_far t t.a t.b [] []) (counted (n + length t.b) (lines more))
-unfolding read_so_far with_list
-b_read t n more s = read_places B (read_so_far t t.a [] [] []) [] t.b 0 n more s.most tt (rises _ t.dim t.b s.most s.b_ascends s.b_stored) (free_readable _ t.dim t.b s.b_stored s.b_in_range)
+unfolding read_so_far with_list keeps_in
+b_read t n more s =
+    read_places B (read_so_far t t.a [] [] []) [] t.b 0 n more tt (rises _ t.dim t.b s.most s.b_ascends s.b_stored)
+    (readable B t.shape t.dim (keeps_b t.shape) t.b s.most (λ i j k h. h) s.b_stored (unordered t.b) s.b_in_range)
 
 c_read : (t : Entries) (n : ℕ) (more : List ℕ) → AreEntries t → entries_from (read_so_far t t.a t.b [] []) (counted n (lines (flat_map (place_text C) t.c ++ more))) ≡ entries_from (read_so_far t t.a t.b t.c []) (counted (n + length t.c) (lines more))
-unfolding read_so_far with_list
-c_read t n more s = read_places C (read_so_far t t.a t.b [] []) [] t.c 0 n more s.most tt (rises _ t.dim t.c s.most s.c_ascends s.c_stored) (ordered_readable _ t.dim t.c s.c_stored s.c_ordered s.c_in_range).1
+unfolding read_so_far with_list keeps_in
+c_read t n more s =
+    read_places C (read_so_far t t.a t.b [] []) [] t.c 0 n more tt (rises _ t.dim t.c s.most s.c_ascends s.c_stored)
+    (readable C t.shape t.dim (keeps_c t.shape) t.c s.most (λ i j k h. h) s.c_stored (ordered t.c s.c_ordered) s.c_in_range)
 
 d_read : (t : Entries) (n : ℕ) (more : List ℕ) → AreEntries t → entries_from (read_so_far t t.a t.b t.c []) (counted n (lines (flat_map index_text t.d ++ more))) ≡ entries_from (read_so_far t t.a t.b t.c t.d) (counted (n + length t.d) (lines more))
 unfolding read_so_far with_values
-d_read t n more s = read_indices (read_so_far t t.a t.b t.c []) [] t.d 0 n more s.most tt (climbs t.d s.d_ascends) (indices_readable _ t.dim t.d s.d_stored s.d_in_range)
+d_read t n more s = read_indices (read_so_far t t.a t.b t.c []) [] t.d 0 n more tt (climbs t.d s.d_ascends) (indices_readable t.shape t.dim t.d s.most s.d_stored s.d_in_range)
 
-no_letter : (t : Entries) → AreEntries t → t.shape ≡ All → t.letter ≡ false
-unfolding IsAtMost
-no_letter t s e = false_from_ne_true t.letter (λ l. subst IsAtMost e (s.letter l))
-
-same_tensors : (t : Entries) → AreEntries t → t.shape ≡ All → read_so_far t t.a t.b t.c t.d ≡ t
+same_tensors : (t : Entries) → read_so_far t t.a t.b t.c t.d ≡ t
 unfolding read_so_far
-same_tensors t s e = let l = no_letter t s e in λ i. record { dim = t.dim; shape = sym e i; letter = sym l i; a = t.a; b = t.b; c = t.c; d = t.d }
+same_tensors t = refl
 
-pub back : (t : Entries) → AreEntries t → t.shape ≡ All → t.dim ≤ 32 → reading_of (canonical_text t) ≡ Read t
-unfolding reading_of canonical_text
-back t s e h =
-    let a = flat_map (place_text A) t.a in
+entries_read : (t : Entries) (n : ℕ) → AreEntries t → entries_from (no_entries t.dim t.shape t.letter) (counted n (lines (entries_text t))) ≡ Read t
+unfolding entries_text
+entries_read t n s =
     let b = flat_map (place_text B) t.b in
     let c = flat_map (place_text C) t.c in
     let d = flat_map index_text t.d in
     let last = codes "end\n" in
-    header_read (dim_text t.dim ++ (a ++ (b ++ (c ++ (d ++ last)))))
-    ∙ dim_is_read t.dim (a ++ (b ++ (c ++ (d ++ last)))) s.some h
-    ∙ ap (λ u. entries_from u (counted 3 (lines (a ++ (b ++ (c ++ (d ++ last))))))) (start_is t)
-    ∙ a_read t 3 (b ++ (c ++ (d ++ last))) s
+    ap (λ u. entries_from u (counted n (lines (flat_map (place_text A) t.a ++ (b ++ (c ++ (d ++ last))))))) (start_is t)
+    ∙ a_read t n (b ++ (c ++ (d ++ last))) s
     ∙ b_read t _ (c ++ (d ++ last)) s
     ∙ c_read t _ (d ++ last) s
     ∙ d_read t _ last s
     ∙ end_read (read_so_far t t.a t.b t.c t.d) _
-    ∙ ap Read (same_tensors t s e)
+    ∙ ap Read (same_tensors t)
+
+regroup : (a b c rest : List ℕ) → (a ++ (b ++ c)) ++ rest ≡ a ++ (b ++ (c ++ rest))
+regroup a b c rest = append_assoc a (b ++ c) rest ∙ ap (λ w. a ++ w) (append_assoc b c rest)
+
+pub back : (t : Entries) → AreEntries t → t.dim ≤ 32 → reading_of (canonical_text t) ≡ Read t
+unfolding reading_of canonical_text first_text
+back t s h =
+    ap (λ x. header_from (counted 1 (lines x))) (regroup (header_text t.shape) (dim_text t.dim) (shape_text t.shape t.letter) (entries_text t))
+    ∙ first_read t.shape t.letter t.dim (entries_text t) s.some h s.law s.letter
+    ∙ entries_read t _ s

@@ -1,21 +1,25 @@
 -- Words that are joined by spaces and ended by a line feed are one line, and these words.
-use Rattle.std.proofs.Common.{◌≡◌, ℕ, suc, ◌-◌, ◌<◌, ◌^◌, Bool, true, false, cond, eqb, List, [], ◌∷◌, ◌++◌, length, get_or, map, refl, ap, ◌∙◌, arith, append_assoc, length-append, ℤ, pos, negsuc}
+use Rattle.std.proofs.Common.{◌≡◌, ℕ, suc, ◌-◌, ◌<◌, ◌^◌, ◌≤◌, Bool, true, false, cond, eqb, ltb, List, [], ◌∷◌, ◌++◌, length, get_or, map, refl, ap, ◌∙◌, arith, append_assoc, length-append, ℤ, pos, negsuc}
 use lib.IntN.{nat_abs}
-use Rattle.std.specs.Prelude.{decimal, codes, ◌==◌}
+use Rattle.std.specs.Prelude.{decimal, codes, ◌==◌, ◌≤ℤ◌}
 use Rattle.std.specs.Fmt.{signed_decimal}
 use Rattle.std.specs.List.{AllByRecursion}
 use Rattle.std.specs.Str.Lines.{strip_carriage_return}
-use Rattle.std.proofs.lemmas.Bool.{ne_eqb}
+use Rattle.std.proofs.lemmas.Int.{ints}
+use Rattle.std.proofs.lemmas.Bool.{ne_eqb, ltb-true}
 use Rattle.std.proofs.lemmas.Bool.Decides.{nat_tests}
 use Rattle.std.proofs.lemmas.List.Elements.{All-from_recursion}
 use Rattle.airy_math.specs.Rational.{ℚ}
 use Rattle.airy_math.specs.Obtained.{IsInRange}
+use Rattle.airy_math.specs.declared.Law.{Law}
+use Rattle.airy_math.specs.declared.Shape.TheVariants.{Exact, AtMost}
 use Rattle.frac128.specs.Fraction.{fraction_text}
 use Rattle.sparse_tensor.specs.Entries.{Entry}
+use Rattle.sparse_tensor.specs.Grades.{IsSmallLaw}
 use Rattle.tensor_text.specs.declared.letters.Letter.{Letter}
 use Rattle.tensor_text.specs.Lines.{onto_first, parts, is_feed, is_blank, lines, nonempty, words}
 use Rattle.tensor_text.specs.Grammar.{Line, counted, is_skipped}
-use Rattle.tensor_text.specs.Canonical.{letter_text, place_text, index_text, dim_text}
+use Rattle.tensor_text.specs.Canonical.{letter_text, place_text, index_text, dim_text, shape_text}
 use Rattle.tensor_text.proofs.LineLemmas.{nonempty-some}
 use Rattle.tensor_text.proofs.CountLemmas.{counted_line}
 use Rattle.tensor_text.proofs.BackValues.{Digits, decimal_spells}
@@ -23,6 +27,23 @@ use Rattle.tensor_text.proofs.BackValues.{Digits, decimal_spells}
 -- no space and no control
 abbrev pub Ink : List ℕ → Type 0
 Ink w = AllByRecursion (λ c. 32 < c) w
+
+-- a byte above the space at each place
+abbrev pub is_inked : List ℕ → Bool
+is_inked [] = true
+is_inked (c ∷ cs) = cond (ltb 32 c) (is_inked cs) false
+
+ink_by_test : (w : List ℕ) → is_inked w ≡ true → Ink w
+ink_by_test [] e = tt
+ink_by_test (c ∷ cs) e = by (ltb 32 c) refl (ink_by_test cs) e
+  where
+    by : (t : Bool) → ltb 32 c ≡ t → (is_inked cs ≡ true → Ink cs) → cond t (is_inked cs) false ≡ true → (32 < c) × Ink cs
+    by true p more q = (ltb-true 32 c p, more q)
+    by false p more q = cc
+
+-- a word, by computation
+pub word_by_test : (w : List ℕ) → is_inked w ≡ true → 0 < length w → Ink w × (0 < length w)
+word_by_test w e h = (ink_by_test w e, h)
 
 -- no control
 abbrev pub Plain : List ℕ → Type 0
@@ -138,6 +159,35 @@ index_is e rest = regroup (codes "D") (decimal e.0) (fraction_text e.1) rest
   where
     regroup : (a b c rest : List ℕ) → ((((a ++ 32 ∷ b) ++ 32 ∷ []) ++ c) ++ 10 ∷ []) ++ rest ≡ (a ++ 32 ∷ (b ++ 32 ∷ c)) ++ 10 ∷ rest
     regroup a b c rest = append_assoc (((a ++ 32 ∷ b) ++ 32 ∷ []) ++ c) (10 ∷ []) rest ∙ ap (λ w. w ++ 10 ∷ rest) (append_assoc (a ++ 32 ∷ b) (32 ∷ []) c ∙ append_assoc a (32 ∷ b) (32 ∷ c))
+
+-- ---- the shape line
+
+abbrev pub law_words : Law → List (List ℕ) → List (List ℕ)
+law_words l more = signed_decimal l.per_g ∷ signed_decimal l.per_n ∷ more
+
+abbrev pub letter_words : Bool → List (List ℕ)
+letter_words letter = cond letter (codes "letter" ∷ []) []
+
+small_size : (z : ℤ) → negsuc 98 ≤ℤ z → z ≤ℤ pos 99 → nat_abs z < 2 ^ 127
+small_size (pos n) l h = let small : n ≤ 99 = omega (arith, ints) in omega arith
+small_size (negsuc n) l h = let small : suc n ≤ 99 = omega (arith, ints) in omega arith
+
+pub law_are_words : (l : Law) (more : List (List ℕ)) → IsSmallLaw (Exact l) → AreWords more → AreWords (law_words l more)
+unfolding IsSmallLaw
+law_are_words l more s p = (signed_word l.per_g (small_size l.per_g s.0 s.1), (signed_word l.per_n (small_size l.per_n s.2 s.3), p))
+
+pub letter_are_words : (letter : Bool) → AreWords (letter_words letter)
+letter_are_words true = (word_by_test (codes "letter") refl (omega arith), tt)
+letter_are_words false = tt
+
+pub exact_is : (l : Law) (rest : List ℕ) → shape_text (Exact l) false ++ rest ≡ joined (codes "shape" ∷ codes "exact" ∷ law_words l []) ++ 10 ∷ rest
+unfolding shape_text
+exact_is l rest = simp append_assoc
+
+pub at_most_is : (l : Law) (letter : Bool) (rest : List ℕ) → shape_text (AtMost l) letter ++ rest ≡ joined (codes "shape" ∷ codes "atmost" ∷ law_words l (letter_words letter)) ++ 10 ∷ rest
+unfolding shape_text
+at_most_is l true rest = simp append_assoc
+at_most_is l false rest = simp append_assoc
 
 pub dim_is : (dim : ℕ) (rest : List ℕ) → dim_text dim ++ rest ≡ joined (codes "dim" ∷ decimal dim ∷ []) ++ 10 ∷ rest
 unfolding dim_text

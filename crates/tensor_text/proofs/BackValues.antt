@@ -2,17 +2,19 @@
 use Rattle.std.proofs.Common.{◌≡◌, ℕ, zero, suc, ◌+◌, ◌-◌, ◌*◌, ◌/◌, ◌%◌, ◌^◌, ◌<◌, ◌≤◌, Bool, true, false, cond, List, [], ◌∷◌, ◌++◌, length, refl, sym, ap, ap₂, ◌∙◌, arith, Some, None, Option, length-append, ℤ, pos, negsuc, neg_ℤ, append-nil}
 use lib.Dec.{T}
 use lib.IntN.{nat_abs}
-use Rattle.std.specs.Prelude.{decimal, ◌==◌}
+use Rattle.std.specs.Prelude.{decimal, ◌==◌, nat_le, ◌≤ℤ◌}
 use Rattle.std.specs.Fmt.{signed_decimal}
 use Rattle.std.specs.List.{AllByRecursion}
 use Rattle.std.specs.Option.{option_map}
-use Rattle.std.proofs.lemmas.Fmt.{decimal_by_steps_wide}
-use Rattle.std.proofs.lemmas.Bool.{lt-ltb, eqb-true, ne_eqb}
+use Rattle.std.proofs.lemmas.Int.{ints}
+use Rattle.std.proofs.lemmas.Fmt.{decimal_by_steps_wide, length-decimal-le}
+use Rattle.std.proofs.lemmas.Bool.{le-leb, eqb-true, ne_eqb}
 use Rattle.std.proofs.lemmas.Bool.Decides.{nat_tests}
 use Rattle.airy_math.specs.Rational.{ℚ, ◌/ℚ◌, neg_ℚ, parts_lem, lowest_parts, lowest, positive}
 use Rattle.airy_math.specs.Obtained.{IsInRange}
 use Rattle.frac128.specs.Fraction.{fraction_text}
-use Rattle.tensor_text.specs.Values.{is_digit, number_on, number_of, below, not_zero, index_of, dim_of, whole_of, is_stroke, before_stroke, from_stroke, denominator_of, quotient_of, size_of, read_value_of}
+use Rattle.tensor_text.specs.Values.{is_digit, number_on, number_of, below, not_zero, index_of, dim_of, short_of, signed_of, whole_of, is_stroke, before_stroke, from_stroke, denominator_of, quotient_of, size_of, read_value_of}
+use Rattle.tensor_text.proofs.ValueLemmas.{below_limit}
 
 -- bytes from 48 to 57
 abbrev pub Digits : List ℕ → Type 0
@@ -75,10 +77,6 @@ decimal_spells n h = decimal_by_steps_wide Spells one-digit more-digits n h
 
 -- ---- a number below a limit
 
-pub below_limit : (limit n : ℕ) → n < limit → below limit (Some n) ≡ Some n
-unfolding below
-below_limit limit n h = rw (lt-ltb n limit h) refl
-
 wide : (n : ℕ) → n < 2 ^ 127 → n < 10 ^ 64
 wide n h = omega arith
 
@@ -98,6 +96,33 @@ not_zero_back (suc n) h = refl
 pub dim_back : (n : ℕ) → 0 < n → n ≤ 32 → dim_of (decimal n) ≡ Some n
 unfolding dim_of
 dim_back n p h = ap (λ o. not_zero (below 33 o)) (decimal_spells n (wide n (omega arith))).number ∙ ap not_zero (below_limit 33 n (omega arith)) ∙ not_zero_back n p
+
+-- ---- the numbers of a law
+
+short_back : (n : ℕ) → n ≤ 99 → short_of (decimal n) ≡ Some n
+unfolding short_of
+short_back n h =
+    let long : nat_le (length (decimal n)) 2 ≡ true = le-leb (length (decimal n)) 2 (length-decimal-le 2 n (omega arith) (omega arith) (omega arith)) in
+    rw (long, (decimal_spells n (wide n (omega arith))).number) refl
+
+-- a digit is no sign
+unsigned : {A : Type 0} (d : ℕ) (plus minus none : A) → 48 ≤ d → cond (d == 43) plus (cond (d == 45) minus none) ≡ none
+unsigned d plus minus none h = rw (ne_eqb d 43 (λ e. omega arith), ne_eqb d 45 (λ e. omega arith)) refl
+
+law_unsigned : (ds : List ℕ) → 0 < length ds → Digits ds → signed_of ds ≡ option_map pos (short_of ds)
+unfolding signed_of
+law_unsigned [] h p = absurd (omega arith)
+law_unsigned (d ∷ ds) h p = unsigned d (option_map pos (short_of ds)) (option_map (λ n. neg_ℤ (pos n)) (short_of ds)) (option_map pos (short_of (d ∷ ds))) p.0.0
+
+pub signed_back : (z : ℤ) → negsuc 98 ≤ℤ z → z ≤ℤ pos 99 → signed_of (signed_decimal z) ≡ Some z
+unfolding signed_of
+signed_back (pos n) l h =
+    let small : n ≤ 99 = omega (arith, ints) in
+    let p = decimal_spells n (wide n (omega arith)) in
+    law_unsigned (decimal n) p.some p.digits ∙ ap (option_map pos) (short_back n small)
+signed_back (negsuc n) l h =
+    let small : suc n ≤ 99 = omega (arith, ints) in
+    ap (option_map (λ m. neg_ℤ (pos m))) (short_back (suc n) small)
 
 -- ---- around a stroke
 
@@ -148,13 +173,10 @@ size_back n d h some l = by (d == 1) refl
     by false e = other_back n d h some l
 
 -- a word that begins with a digit has no sign
-unsigned : (ds rest : List ℕ) → 0 < length ds → Digits ds → read_value_of (ds ++ rest) ≡ size_of (ds ++ rest)
+value_unsigned : (ds rest : List ℕ) → 0 < length ds → Digits ds → read_value_of (ds ++ rest) ≡ size_of (ds ++ rest)
 unfolding read_value_of
-unsigned [] rest h p = absurd (omega arith)
-unsigned (d ∷ ds) rest h p =
-    let plus : (d == 43) ≡ false = ne_eqb d 43 (λ e. omega (arith, p.0.0)) in
-    let minus : (d == 45) ≡ false = ne_eqb d 45 (λ e. omega (arith, p.0.0)) in
-    rw (plus, minus) refl
+value_unsigned [] rest h p = absurd (omega arith)
+value_unsigned (d ∷ ds) rest h p = unsigned d (size_of (ds ++ rest)) (option_map neg_ℚ (size_of (ds ++ rest))) (size_of (d ∷ ds ++ rest)) p.0.0
 
 negative : (word : List ℕ) → read_value_of (45 ∷ word) ≡ option_map neg_ℚ (size_of word)
 unfolding read_value_of
@@ -169,7 +191,7 @@ negative_parts n d t =
 by_sign : (z : ℤ) (d : ℕ) → nat_abs z < 2 ^ 127 → 0 < d → d < 2 ^ 127 → T (lowest z d) → read_value_of (signed_decimal z ++ denominator_text d) ≡ Some (z /ℚ d)
 by_sign (pos n) d h some l t =
     let p = decimal_spells n (wide n h) in
-    unsigned (decimal n) (denominator_text d) p.some p.digits ∙ size_back n d h some l
+    value_unsigned (decimal n) (denominator_text d) p.some p.digits ∙ size_back n d h some l
 by_sign (negsuc n) d h some l t =
     negative (decimal (suc n) ++ denominator_text d) ∙ ap (option_map neg_ℚ) (size_back (suc n) d h some l) ∙ ap Some (negative_parts n d t)
 

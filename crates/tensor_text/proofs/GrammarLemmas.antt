@@ -1,4 +1,4 @@
--- One line behind the dim line, by what it gives.
+-- One line behind the first lines, by what it gives.
 use Rattle.std.proofs.Common.{◌≡◌, ℕ, suc, ◌+◌, List, refl, sym, ap, ap₂, subst, ◌∙◌, add-one, Result, Err}
 use Rattle.sparse_tensor.specs.Entries.{Entries}
 use Rattle.tensor_text.specs.declared.refusals.LineKind.{LineKind}

@@ -2,10 +2,15 @@
 use Rattle.std.proofs.Common.{◌≡◌, ℕ, suc, ◌+◌, ◌-◌, ◌*◌, ◌<◌, ◌≤◌, Bool, true, false, cond, not, List, [], ◌∷◌, length, get_or, take, drop, refl, sym, ap, ◌∙◌, arith, Some, None, Option}
 use Rattle.std.specs.Prelude.{nat_lt}
 use Rattle.std.specs.List.{position_or_len}
-use Rattle.std.proofs.lemmas.Bool.{le-ltb, lt-ltb, ltb-true}
+use Rattle.std.proofs.lemmas.Bool.{le-leb, lt-leb, le-ltb, lt-ltb, ltb-true}
+use Rattle.std.proofs.lemmas.Bool.Decides.{nat_tests}
 use Rattle.std.proofs.lemmas.Option.{none-some, cond_some}
 use Rattle.std.proofs.lemmas.List.{at_drop_more, at_drop_all}
-use Rattle.tensor_text.specs.Values.{is_digit, number_on, number_of, below, is_stroke, before_stroke, from_stroke}
+use Rattle.tensor_text.specs.Values.{is_digit, number_on, number_of, below, short_of, is_stroke, before_stroke, from_stroke}
+
+pub below_limit : (limit n : ℕ) → n < limit → below limit (Some n) ≡ Some n
+unfolding below
+below_limit limit n h = rw (lt-ltb n limit h) refl
 
 -- more digits make no less
 none_beyond : (limit n : ℕ) (cs : List ℕ) → limit ≤ n → below limit (number_on n cs) ≡ None
@@ -77,3 +82,31 @@ pub below_fits : (limit n : ℕ) (o : Option ℕ) → Some n ≡ below limit o �
 unfolding below
 below_fits limit n None e = absurd (none-some n (sym e))
 below_fits limit n (Some m) e = let p = cond_some (nat_lt m limit) m n (sym e) in let b = ltb-true m limit p.0 in omega (arith, p.1)
+
+-- ---- one digit or two
+
+digit_most : (c : ℕ) → is_digit c ≡ true → c ≤ 57
+digit_most c h = grind (arith, nat_tests)
+
+behind_digit : (limit c : ℕ) (o : Option ℕ) → (is_digit c ≡ true → below limit o ≡ o) → below limit (cond (is_digit c) o None) ≡ cond (is_digit c) o None
+unfolding below
+behind_digit limit c o h = by (is_digit c) h
+  where
+    by : (t : Bool) → (t ≡ true → below limit o ≡ o) → below limit (cond t o None) ≡ cond t o None
+    by true e = e refl
+    by false e = refl
+
+short-below : (word : List ℕ) → length word ≤ 2 → below 100 (number_of word) ≡ number_of word
+unfolding below number_of number_on
+short-below [] h = refl
+short-below (c ∷ []) h = behind_digit 100 c _ (λ p. below_limit 100 _ (omega (arith, digit_most c p)))
+short-below (c ∷ d ∷ []) h = behind_digit 100 c _ (λ p. behind_digit 100 d _ (λ q. below_limit 100 _ (omega (arith, digit_most c p, digit_most d q))))
+short-below (c ∷ d ∷ e ∷ es) h = absurd (omega arith)
+
+pub short_is : (word : List ℕ) → length word ≤ 2 → below 100 (number_of word) ≡ short_of word
+unfolding short_of
+short_is word h = short-below word h ∙ rw (le-leb (length word) 2 h) refl
+
+pub long_is : (word : List ℕ) → 2 < length word → None ≡ short_of word
+unfolding short_of
+long_is word h = rw (lt-leb (length word) 2 h) refl

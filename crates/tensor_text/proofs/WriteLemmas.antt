@@ -1,10 +1,14 @@
 -- Texts that are written one after the other, and a part of the last.
-use Rattle.std.proofs.Common.{◌≡◌, ℕ, zero, suc, ◌+◌, ◌-◌, ◌<◌, ◌≤◌, List, [], ◌++◌, refl, sym, ap, ◌∙◌, subst, arith, append_assoc, append-nil, length-append, Ok, Err, Result, Option, Some, None}
+use Rattle.std.proofs.Common.{◌≡◌, ℕ, zero, suc, ◌+◌, ◌-◌, ◌<◌, ◌≤◌, Bool, List, [], ◌++◌, refl, sym, ap, ◌∙◌, subst, arith, append_assoc, append-nil, length-append, Ok, Err, Result, Option, Some, None}
 use Rattle.std.specs.Io.KnownBytes.{Appends}
 use Rattle.std.proofs.lemmas.List.{take-append-le}
 use Rattle.airy_io.specs.Causes.{AppendsPrefix, Taking, Writes}
 use Rattle.airy_io.proofs.Writes.{Appends-more}
 use Rattle.airy_io.proofs.Prefixes.{AppendsPrefix-more}
+use Rattle.airy_math.specs.declared.Law.{Law}
+use Rattle.airy_math.specs.declared.Shape.TheVariants.{Exact}
+use Rattle.std.specs.Prelude.{codes}
+use Rattle.tensor_text.specs.Canonical.{law_text, shape_text}
 use Rattle.tensor_text.specs.Pieces.{each_from, first_in}
 use Rattle.tensor_text.specs.declared.letters.Letter.{Letter}
 use Rattle.tensor_text.specs.declared.letters.Letter.TheVariants.{A, B, C}
@@ -89,3 +93,8 @@ first_within C j = omega arith
 -- all pieces
 pub all_written : {T E : Type 0} (f : ℕ → List ℕ) (p n k : ℕ) (a b : Taking) (x : T) → k - p ≡ n → Appends a.taken b.taken (each_from f p (k - p)) → b.faults ≡ a.faults → Writes {E = E} (each_from f p n) a b (Ok x)
 all_written f p n k a b x e w s = has_written (each_from f p n) a b x (subst (λ c. Appends a.taken b.taken (each_from f p c)) e w) s
+
+-- an exact law has nothing behind its numbers
+pub exact_line : (l : Law) (letter : Bool) → shape_text (Exact l) letter ≡ codes "shape exact" ++ law_text l ++ [] ++ codes "\n"
+unfolding shape_text
+exact_line l letter = ap (λ w. w ++ codes "\n") (sym (append-nil (codes "shape exact" ++ law_text l)))

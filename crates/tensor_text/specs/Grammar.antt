@@ -1,18 +1,22 @@
 -- The grammar of a text of tensors, by cases on its lines, and a line by cases on its words.
-use Rattle.std.specs.Prelude.{ℕ, suc, min, max, List, [], ◌∷◌, Bool, true, false, not, ◌&&◌, ◌==◌, cond, Option, Some, None, codes}
+use Rattle.std.specs.Prelude.{ℕ, suc, min, max, ℤ, List, [], ◌∷◌, Bool, true, false, ◌==◌, cond, Option, Some, None, codes}
 use Rattle.std.specs.Option.{option_map, option_and_then}
 use Rattle.std.specs.Str.{bytes_eq}
 use Rattle.airy_math.specs.Rational.{ℚ}
 use Rattle.airy_math.specs.Tensors.{is_zero}
-use Rattle.airy_math.specs.declared.Shape.TheVariants.{All}
+use Rattle.airy_math.specs.declared.Law.{Law}
+use Rattle.airy_math.specs.declared.Shape.{Shape}
+use Rattle.airy_math.specs.declared.Shape.TheVariants.{All, Exact, AtMost}
 use Rattle.sparse_tensor.specs.Entries.{Entries, no_entries, is_taken, is_given}
+use Rattle.sparse_tensor.specs.Grades.{keeps_a, keeps_b, keeps_c, keeps_d}
 use Rattle.sparse_tensor.specs.Puts.{with_a, with_b, with_c, with_d}
 use Rattle.tensor_text.specs.Lines.{lines, words}
-use Rattle.tensor_text.specs.Values.{index_of, dim_of, read_value_of}
+use Rattle.tensor_text.specs.Values.{index_of, dim_of, signed_of, read_value_of}
 use Rattle.tensor_text.specs.declared.letters.Letter.{Letter}
 use Rattle.tensor_text.specs.declared.letters.Letter.TheVariants.{A, B, C}
 use Rattle.tensor_text.specs.declared.refusals.LineKind.{LineKind}
-use Rattle.tensor_text.specs.declared.refusals.LineKind.TheVariants.{Header, Dim, Word, Count, Index, Number, Twice, NoEnd, After}
+use Rattle.tensor_text.specs.declared.refusals.LineKind.TheVariants.{Header, Dim, Word, Count, Index, Number, Grade, Twice, NoEnd, After}
+use Rattle.tensor_text.specs.declared.refusals.LineKind.TheVariants as kinds
 
 -- What a text gives: its entries, or its first refused line with the first check that fails there.
 pub data TextReading : Type 0 where
@@ -67,21 +71,75 @@ place_words [] = None
 place_words (i ∷ []) = None
 place_words (i ∷ j ∷ more) = option_map (λ p. record { i = i; j = j; k = p.0; v = p.1 }) (two_words more)
 
--- `airy 1`
-unfoldable pub is_version : Option (List ℕ) → Bool
-is_version None = false
-is_version (Some word) = bytes_eq word (codes "1")
+-- ---- the first lines
 
-unfoldable pub is_header : List (List ℕ) → Bool
-is_header [] = false
-is_header (word ∷ more) = bytes_eq word (codes "airy") && is_version (only_word more)
+-- The version that the one word of a header names: whether a shape line stands behind the dim line.
+unfoldable pub version_of : Option (List ℕ) → Option Bool
+version_of None = None
+version_of (Some word) = cond (bytes_eq word (codes "1")) (Some false) (cond (bytes_eq word (codes "2")) (Some true) None)
+
+-- `airy 1` or `airy 2`
+unfoldable pub header_line : List (List ℕ) → Option Bool
+header_line [] = None
+header_line (word ∷ more) = cond (bytes_eq word (codes "airy")) (version_of (only_word more)) None
 
 -- `dim N`
 unfoldable pub dim_line : List (List ℕ) → Option ℕ
 dim_line [] = None
 dim_line (word ∷ more) = cond (bytes_eq word (codes "dim")) (option_and_then dim_of (only_word more)) None
 
--- ---- a line behind the dim line
+-- a shape, and whether the tensors carry a letter
+abbrev pub Shaped : Type 0
+Shaped = Shape × Bool
+
+unfoldable pub law_by : Option ℤ → Option ℤ → Option Law
+law_by None q = None
+law_by (Some p) None = None
+law_by (Some p) (Some q) = Some (record { per_g = p; per_n = q })
+
+-- the law of two words `P Q`
+unfoldable pub law_of : List ℕ → List ℕ → Option Law
+law_of p q = law_by (signed_of p) (signed_of q)
+
+-- behind `all`: nothing
+unfoldable pub all_shape : List (List ℕ) → Option Shaped
+all_shape [] = Some (All, false)
+all_shape (word ∷ more) = None
+
+-- behind `exact`: `P Q`
+unfoldable pub exact_shape : List (List ℕ) → Option Shaped
+exact_shape more = option_map (λ l. (Exact l, false)) (option_and_then (λ w. law_of w.0 w.1) (two_words more))
+
+-- behind `atmost P Q`: nothing, or `letter`
+unfoldable pub letter_given : List (List ℕ) → Option Bool
+letter_given [] = Some false
+letter_given (word ∷ []) = cond (bytes_eq word (codes "letter")) (Some true) None
+letter_given (word ∷ more ∷ rest) = None
+
+unfoldable pub at_most_by : Option Law → Option Bool → Option Shaped
+at_most_by None letter = None
+at_most_by (Some l) letter = option_map (λ has. (AtMost l, has)) letter
+
+-- behind `atmost`: `P Q` or `P Q letter`
+unfoldable pub at_most_shape : List (List ℕ) → Option Shaped
+at_most_shape [] = None
+at_most_shape (p ∷ []) = None
+at_most_shape (p ∷ q ∷ more) = at_most_by (law_of p q) (letter_given more)
+
+-- behind `shape`
+unfoldable pub shape_words : List (List ℕ) → Option Shaped
+shape_words [] = None
+shape_words (word ∷ more) =
+    cond (bytes_eq word (codes "all")) (all_shape more)
+    (cond (bytes_eq word (codes "exact")) (exact_shape more)
+    (cond (bytes_eq word (codes "atmost")) (at_most_shape more) None))
+
+-- `shape all`, `shape exact P Q`, `shape atmost P Q` or `shape atmost P Q letter`
+unfoldable pub shape_line : List (List ℕ) → Option Shaped
+shape_line [] = None
+shape_line (word ∷ more) = cond (bytes_eq word (codes "shape")) (shape_words more) None
+
+-- ---- a line of an entry, or `end`
 
 -- What it gives to the entries before it: the entries with it, or the end, or the first check that it fails.
 pub data Said : Type 0 where
@@ -94,9 +152,15 @@ unfoldable pub checked : {A : Type 0} → LineKind → Option A → (A → Said)
 checked kind None next = Fails kind
 checked kind (Some x) next = next x
 
--- a value that isn't 0 wants a place that isn't taken
-unfoldable pub stored : Bool → ℚ → Entries → Said
-stored taken v t = cond (taken && not (is_zero v)) (Fails Twice) (Stored t)
+-- a value that isn't 0 wants an entry that keeps the grading, and then a place that isn't taken
+unfoldable pub stored : Bool → Bool → ℚ → Entries → Said
+stored graded taken v t = cond (is_zero v) (Stored t) (cond graded (cond taken (Fails Twice) (Stored t)) (Fails Grade))
+
+-- whether an entry of A, B or C keeps the grading
+unfoldable pub keeps_in : Letter → Shape → ℕ → ℕ → ℕ → Bool
+keeps_in A shape i j k = keeps_a shape i j k
+keeps_in B shape i j k = keeps_b shape i j k
+keeps_in C shape i j k = keeps_c shape i j k
 
 -- a place of A, B or C; for A and C the places (j,k) and (k,j) are one
 unfoldable pub taken_in : Letter → Entries → ℕ → ℕ → ℕ → Bool
@@ -115,24 +179,30 @@ place_line letter t more = checked Count (place_words more) λ w.
     checked Index (index_of t.dim w.i) λ i.
     checked Index (index_of t.dim w.j) λ j.
     checked Index (index_of t.dim w.k) λ k.
-    checked Number (read_value_of w.v) λ v. stored (taken_in letter t i j k) v (with_in letter t i j k v)
+    checked Number (read_value_of w.v) λ v.
+    stored (keeps_in letter t.shape i j k) (taken_in letter t i j k) v (with_in letter t i j k v)
 
 -- an index and a value, of D
 unfoldable pub index_line : Entries → List (List ℕ) → Said
 index_line t more = checked Count (two_words more) λ w.
     checked Index (index_of t.dim w.0) λ i.
-    checked Number (read_value_of w.1) λ v. stored (is_given t.d i) v (with_d t i v)
+    checked Number (read_value_of w.1) λ v. stored (keeps_d t.shape i) (is_given t.d i) v (with_d t i v)
 
 unfoldable pub end_line : List (List ℕ) → Said
 end_line [] = Ended
 end_line (word ∷ more) = Fails Count
 
 unfoldable pub letter_of : List ℕ → Option Letter
-letter_of word = cond (bytes_eq word (codes "A")) (Some A) (cond (bytes_eq word (codes "B")) (Some B) (cond (bytes_eq word (codes "C")) (Some C) None))
+letter_of word =
+    cond (bytes_eq word (codes "A")) (Some A)
+    (cond (bytes_eq word (codes "B")) (Some B)
+    (cond (bytes_eq word (codes "C")) (Some C) None))
 
 unfoldable pub said_by : Option Letter → Entries → List ℕ → List (List ℕ) → Said
 said_by (Some letter) t word more = place_line letter t more
-said_by None t word more = cond (bytes_eq word (codes "D")) (index_line t more) (cond (bytes_eq word (codes "end")) (end_line more) (Fails Word))
+said_by None t word more =
+    cond (bytes_eq word (codes "D")) (index_line t more)
+    (cond (bytes_eq word (codes "end")) (end_line more) (Fails Word))
 
 -- by its first word; a line that counts has one
 unfoldable pub said : Entries → List (List ℕ) → Said
@@ -152,23 +222,36 @@ then_read n (Stored t) next ended = next t
 then_read n Ended next ended = ended
 then_read n (Fails kind) next ended = Refused n kind
 
--- behind the dim line and some entries
+-- behind the first lines and some entries
 unfoldable pub entries_from : Entries → Lines → TextReading
 entries_from t (End n) = Refused n NoEnd
 entries_from t (Line n line rest) = then_read n (said t line) (λ u. entries_from u rest) (after_end t rest)
 
-unfoldable pub dim_read : ℕ → Option ℕ → Lines → TextReading
-dim_read n None rest = Refused n Dim
-dim_read n (Some dim) rest = entries_from (no_entries dim All false) rest
+unfoldable pub shape_read : ℕ → ℕ → Option Shaped → Lines → TextReading
+shape_read dim n None rest = Refused n kinds.Shape
+shape_read dim n (Some shaped) rest = entries_from (no_entries dim shaped.0 shaped.1) rest
+
+-- behind the dim line of `airy 2`
+unfoldable pub shape_from : ℕ → Lines → TextReading
+shape_from dim (End n) = Refused n kinds.Shape
+shape_from dim (Line n line rest) = shape_read dim n (shape_line line) rest
+
+unfoldable pub dim_read : Bool → ℕ → Option ℕ → Lines → TextReading
+dim_read has_shape n None rest = Refused n Dim
+dim_read has_shape n (Some dim) rest = cond has_shape (shape_from dim rest) (entries_from (no_entries dim All false) rest)
 
 -- behind the header
-unfoldable pub dim_from : Lines → TextReading
-dim_from (End n) = Refused n Dim
-dim_from (Line n line rest) = dim_read n (dim_line line) rest
+unfoldable pub dim_from : Bool → Lines → TextReading
+dim_from has_shape (End n) = Refused n Dim
+dim_from has_shape (Line n line rest) = dim_read has_shape n (dim_line line) rest
+
+unfoldable pub header_read : ℕ → Option Bool → Lines → TextReading
+header_read n None rest = Refused n Header
+header_read n (Some has_shape) rest = dim_from has_shape rest
 
 unfoldable pub header_from : Lines → TextReading
 header_from (End n) = Refused n Header
-header_from (Line n line rest) = cond (is_header line) (dim_from rest) (Refused n Header)
+header_from (Line n line rest) = header_read n (header_line line) rest
 
 -- What the grammar gives to a text.
 unfoldable pub reading_of : List ℕ → TextReading

@@ -31,7 +31,9 @@ first_in C j = j
 
 -- the line of a value that isn't 0
 unfoldable pub place_piece : Letter → Entries → ℕ → ℕ → ℕ → List ℕ
-place_piece letter t i j k = cond (is_zero (value_in letter t i j k)) [] (place_text letter (record { i = i; j = j; k = k; v = value_in letter t i j k }))
+place_piece letter t i j k =
+    cond (is_zero (value_in letter t i j k)) []
+    (place_text letter (record { i = i; j = j; k = k; v = value_in letter t i j k }))
 
 unfoldable pub row_piece : Letter → Entries → ℕ → ℕ → List ℕ
 row_piece letter t i j = each_from (place_piece letter t i j) (first_in letter j) (t.dim - first_in letter j)

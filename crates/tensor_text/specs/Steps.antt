@@ -1,15 +1,16 @@
 -- What the steps of the reader answer, in the words of the grammar.
-use Rattle.std.specs.Prelude.{◌≡◌, ℕ, suc, ◌+◌, ◌<◌, ◌≤◌, List, ◌∷◌, length, Result, Ok, Err}
+use Rattle.std.specs.Prelude.{◌≡◌, ℕ, suc, true, ◌+◌, ◌<◌, ◌≤◌, List, ◌∷◌, length, Result, Ok, Err}
 use Rattle.std.specs.declared.option.Option.{Option}
 use Rattle.std.specs.Io.KnownBytes.{Consumes, IsAtEnd}
 use Rattle.sparse_tensor.specs.Entries.{Entries}
+use Rattle.sparse_tensor.specs.Grades.{IsSmallLaw, IsAtMost}
 use Rattle.sparse_tensor.specs.declared.tensors.PutErr.{PutErr}
 use Rattle.sparse_tensor.specs.declared.tensors.PutErr.TheVariants as puts
 use Rattle.tensor_text.specs.Lines.{lines, words}
-use Rattle.tensor_text.specs.Grammar.{Lines, Line, End, counted, PlaceWords, Said, Stored, Ended, Fails}
+use Rattle.tensor_text.specs.Grammar.{Lines, Line, End, counted, PlaceWords, Shaped, Said, Stored, Ended, Fails}
 use Rattle.tensor_text.specs.declared.refusals.TextErr.{TextErr}
 use Rattle.tensor_text.specs.declared.refusals.TextErr.TheVariants as texts
-use Rattle.tensor_text.specs.declared.refusals.LineKind.TheVariants.{Twice}
+use Rattle.tensor_text.specs.declared.refusals.LineKind.TheVariants.{Grade, Twice}
 use Rattle.tensor_text.specs.declared.words.PlaceWords as seen
 use Rattle.tensor_text.specs.declared.entries.Said as code
 use Rattle.tensor_text.specs.declared.entries.Said.TheVariants as says
@@ -32,6 +33,10 @@ IsWithin (next.End number) first size = number ≤ first + size
 abbrev pub fields_seen : seen.PlaceWords → PlaceWords
 fields_seen w = record { i = w.i.now; j = w.j.now; k = w.k.now; v = w.v.now }
 
+-- tensors may have this shape, and this letter
+abbrev pub IsAllowed : Shaped → Type 0
+IsAllowed shaped = IsSmallLaw shaped.0 × (shaped.1 ≡ true → IsAtMost shaped.0)
+
 -- ---- what a line gives, as the code stores it
 
 abbrev pub IsRefusal : Refusal → Said → Type 0
@@ -43,11 +48,11 @@ abbrev pub err_at : ℕ → Refusal → TextErr
 err_at n (refusals.Kind kind) = texts.Line n kind
 err_at n refusals.NoMemory = texts.NoMemory
 
--- what became of an entry whose indices are below dim and which keeps the grading
+-- what became of an entry whose indices are below dim
 abbrev pub refused_put : {T : Type 0} → Result T PutErr → Result T Refusal
 refused_put (Ok x) = Ok x
 refused_put (Err puts.Index) = Err (refusals.Kind Twice)
-refused_put (Err puts.Grade) = Err (refusals.Kind Twice)
+refused_put (Err puts.Grade) = Err (refusals.Kind Grade)
 refused_put (Err puts.Twice) = Err (refusals.Kind Twice)
 refused_put (Err puts.NoMemory) = Err refusals.NoMemory
 
@@ -56,7 +61,7 @@ abbrev pub Stores : {T : Type 0} → Result T Refusal → Entries → Said → T
 Stores (Ok x) new given = given ≡ Stored new
 Stores (Err e) new given = IsRefusal e given
 
--- what a line behind the dim line is, and the entries that it leaves
+-- what a line behind the first lines is, and the entries that it leaves
 abbrev pub Says : Result code.Said Refusal → Entries → Entries → Said → Type 0
 Says (Ok says.Entry) old new given = given ≡ Stored new
 Says (Ok says.End) old new given = (given ≡ Ended) × (new ≡ old)

@@ -1,5 +1,5 @@
 -- Numbers and values, as words.
-use Rattle.std.specs.Prelude.{ℕ, zero, suc, ◌+◌, ◌-◌, ◌*◌, ◌^◌, pos, List, [], ◌∷◌, Bool, ◌&&◌, ◌==◌, nat_le, nat_lt, cond, Option, Some, None}
+use Rattle.std.specs.Prelude.{ℕ, zero, suc, ◌+◌, ◌-◌, ◌*◌, ◌^◌, ℤ, pos, neg_ℤ, List, [], ◌∷◌, length, Bool, ◌&&◌, ◌==◌, nat_le, nat_lt, cond, Option, Some, None}
 use Rattle.std.specs.Option.{option_map}
 use Rattle.airy_math.specs.Rational.{ℚ, ◌/ℚ◌, neg_ℚ}
 
@@ -34,6 +34,19 @@ index_of dim word = below dim (number_of word)
 -- a dim: a number from 1 to 32
 unfoldable pub dim_of : List ℕ → Option ℕ
 dim_of word = not_zero (below 33 (number_of word))
+
+-- ---- the numbers of a law
+
+-- a number of one digit or two
+unfoldable pub short_of : List ℕ → Option ℕ
+short_of word = cond (nat_le (length word) 2) (number_of word) None
+
+-- A number of a law: an optional sign, then one digit or two.
+unfoldable pub signed_of : List ℕ → Option ℤ
+signed_of [] = None
+signed_of (c ∷ cs) =
+    cond (c == 43) (option_map pos (short_of cs))
+    (cond (c == 45) (option_map (λ n. neg_ℤ (pos n)) (short_of cs)) (option_map pos (short_of (c ∷ cs))))
 
 -- ---- values
 

@@ -1,8 +1,8 @@
 ghost use Rattle.std.specs.Prelude.{◌≡◌, ◌∷◌, ◌<◌};
-ghost use Rattle.airy_math.specs.declared.Shape.TheVariants.{All};
 ghost use Rattle.tensor_text.specs.Lines.{words};
-ghost use Rattle.tensor_text.specs.Grammar.{stored, taken_in, with_in, place_line, index_line, said};
+ghost use Rattle.tensor_text.specs.Grammar.{stored, keeps_in, taken_in, with_in, place_line, index_line, said};
 ghost use Rattle.sparse_tensor.specs.Entries.{is_given};
+ghost use Rattle.sparse_tensor.specs.Grades.{keeps_d};
 ghost use Rattle.sparse_tensor.specs.Puts.{with_d};
 ghost use Rattle.tensor_text.specs.Steps.{Stores, Says, err_at, refused_put};
 
@@ -33,32 +33,32 @@ impl Refusal {
     }
 }
 
-/// What a line behind the dim line is.
+/// What a line behind the first lines is.
 #[derive(Clone, Copy, Debug, PartialEq, Eq)]
 pub(crate) enum Said {
     Entry,
     End,
 }
 
-/// What became of an entry whose indices are below dim and which keeps the grading.
+/// What became of an entry whose indices are below dim.
 fn stored(answer: Result<(), PutErr>) -> Result<(), Refusal>
     ensures { result ≡ refused_put answer }
 {
     match answer {
         Ok(()) => Ok(()),
         Err(PutErr::NoMemory) => Err(Refusal::NoMemory),
+        Err(PutErr::Grade) => Err(Refusal::Kind(LineKind::Grade)),
         Err(_) => Err(Refusal::Kind(LineKind::Twice)),
     }
 }
 
 /// Stores an entry of A, B or C.
 fn put(tensors: &mut Tensors, letter: Letter, i: u8, j: u8, k: u8, v: Frac) -> Result<(), Refusal>
-    requires all { tensors.old.shape ≡ All }
     requires i_inside { i < tensors.old.dim }
     requires j_inside { j < tensors.old.dim }
     requires k_inside { k < tensors.old.dim }
-    ensures shape { tensors.new.shape ≡ tensors.old.shape }
-    ensures given { Stores result tensors.new (stored (taken_in letter tensors.old i j k) v (with_in letter tensors.old i j k v)) }
+    ensures { Stores result tensors.new
+        (stored (keeps_in letter tensors.old.shape i j k) (taken_in letter tensors.old i j k) v (with_in letter tensors.old i j k v)) }
 {
     match letter {
         Letter::A => stored(tensors.put_a(i, j, k, v)),
@@ -69,10 +69,8 @@ fn put(tensors: &mut Tensors, letter: Letter, i: u8, j: u8, k: u8, v: Frac) -> R
 
 /// Stores an entry of D.
 fn put_d(tensors: &mut Tensors, i: u8, v: Frac) -> Result<(), Refusal>
-    requires all { tensors.old.shape ≡ All }
-    requires i_inside { i < tensors.old.dim }
-    ensures shape { tensors.new.shape ≡ tensors.old.shape }
-    ensures given { Stores result tensors.new (stored (is_given tensors.old.d i) v (with_d tensors.old i v)) }
+    requires { i < tensors.old.dim }
+    ensures { Stores result tensors.new (stored (keeps_d tensors.old.shape i) (is_given tensors.old.d i) v (with_d tensors.old i v)) }
 {
     stored(tensors.put_d(i, v))
 }
@@ -80,9 +78,7 @@ fn put_d(tensors: &mut Tensors, i: u8, v: Frac) -> Result<(), Refusal>
 /// Reads what stands behind `A`, `B` or `C`.
 #[tactic(auto, unfolding(crate::specs::Grammar::place_line, crate::specs::Grammar::checked))]
 fn read_place(tensors: &mut Tensors, letter: Letter, more: &[u8]) -> Result<(), Refusal>
-    requires { tensors.old.shape ≡ All }
-    ensures shape { tensors.new.shape ≡ tensors.old.shape }
-    ensures given { Stores result tensors.new (place_line letter tensors.old (words more.now)) }
+    ensures { Stores result tensors.new (place_line letter tensors.old (words more.now)) }
 {
     let dim = tensors.dim();
     let fields = place_words(more).ok_or(Refusal::Kind(LineKind::Count))?;
@@ -96,9 +92,7 @@ fn read_place(tensors: &mut Tensors, letter: Letter, more: &[u8]) -> Result<(), 
 /// Reads what stands behind `D`.
 #[tactic(auto, unfolding(crate::specs::Grammar::index_line, crate::specs::Grammar::checked))]
 fn read_at_index(tensors: &mut Tensors, more: &[u8]) -> Result<(), Refusal>
-    requires { tensors.old.shape ≡ All }
-    ensures shape { tensors.new.shape ≡ tensors.old.shape }
-    ensures given { Stores result tensors.new (index_line tensors.old (words more.now)) }
+    ensures { Stores result tensors.new (index_line tensors.old (words more.now)) }
 {
     let dim = tensors.dim();
     let (index, value) = two_words(more).ok_or(Refusal::Kind(LineKind::Count))?;
@@ -107,12 +101,10 @@ fn read_at_index(tensors: &mut Tensors, more: &[u8]) -> Result<(), Refusal>
     put_d(tensors, i, v)
 }
 
-/// Reads a line behind the dim line, of which this is the first word and what stands behind it.
+/// Reads a line behind the first lines, of which this is the first word and what stands behind it.
 #[tactic(auto, unfolding(crate::specs::Grammar::said, crate::specs::Grammar::said_by, crate::specs::Grammar::end_line))]
 pub(crate) fn read_line(tensors: &mut Tensors, word: &[u8], more: &[u8]) -> Result<Said, Refusal>
-    requires { tensors.old.shape ≡ All }
-    ensures shape { tensors.new.shape ≡ tensors.old.shape }
-    ensures given { Says result tensors.old tensors.new (said tensors.old (word.now ∷ words more.now)) }
+    ensures { Says result tensors.old tensors.new (said tensors.old (word.now ∷ words more.now)) }
 {
     if let Some(letter) = letter_of(word) {
         read_place(tensors, letter, more)?;

@@ -7,6 +7,7 @@ mod lines;
 mod places;
 mod reading;
 mod refusals;
+mod shapes;
 mod text;
 mod values;
 mod words;

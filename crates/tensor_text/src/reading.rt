@@ -11,7 +11,8 @@ use std::alloc::Global;
 /// The most bytes of a text.
 const MOST_BYTES: usize = 1_048_576;
 
-/// Reads a source to its end and gives the tensors of its text, of shape All and without letter, as the grammar says.
+/// Reads a source to its end and gives the tensors of its text, with their shape and letter, as the grammar says: those of a
+/// text `airy 1` have the shape All and no letter.
 ///
 /// `ReadFault` comes only where the source's count of faults rose, and every other answer leaves that count. `TooLong`
 /// comes where the source gives a byte beyond 1,048,576, and reading stops at that byte. `Line` comes exactly where the

@@ -1,10 +1,12 @@
 /// The check that a line of a text is the first to fail.
 #[derive(Clone, Copy, Debug, PartialEq, Eq)]
 pub enum LineKind {
-    /// The first line that counts isn't `airy 1`, or there is none.
+    /// The first line that counts is neither `airy 1` nor `airy 2`, or there is none.
     Header,
     /// The second line that counts isn't `dim N` with N from 1 to 32, or there is none.
     Dim,
+    /// The header is `airy 2`, and the third line that counts isn't a shape line, or there is none.
+    Shape,
     /// The first word of a later line is none of `A`, `B`, `C`, `D` and `end`.
     Word,
     /// The line hasn't as many words as its first word wants.
@@ -13,6 +15,8 @@ pub enum LineKind {
     Index,
     /// Its value isn't a value.
     Number,
+    /// Its value isn't 0, and the entry breaks the grading of the shape.
+    Grade,
     /// Its value isn't 0, and an earlier line stored an entry at the same place.
     Twice,
     /// The text ends without `end`.

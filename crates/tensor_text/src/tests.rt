@@ -1,6 +1,6 @@
 use crate::{LineKind, TextErr, read_tensors, read_value, write_tensors};
 use airy_io::{Failed, MemSink, MemSource, SlowSource, SteadySource};
-use sparse_tensor::{Shape, Tensors};
+use sparse_tensor::{Law, Shape, Tensors};
 use std::alloc::{AllocError, Global};
 use std::test::Fail;
 
@@ -42,7 +42,7 @@ fn is_written(
     end: Result<(), Failed>,
     text: &[u8],
 ) -> bool {
-    if tensors.dim() > 32 || tensors.shape() != Shape::All {
+    if tensors.dim() > 32 {
         return false;
     }
     match room(alloc, fail_at) {
@@ -83,7 +83,7 @@ fn ones_are_read_byte_by_byte_and_written_again(rt: HostRuntime) -> Result<(), F
 
 const BROKEN: [(&[u8], u32, LineKind); 14] = [
     (b"", 1, LineKind::Header),
-    (b"# note\nairy 2\n", 2, LineKind::Header),
+    (b"# note\nairy 3\n", 2, LineKind::Header),
     (b"airy 1\n#", 3, LineKind::Dim),
     (b"airy 1\n\ndim 33\n", 3, LineKind::Dim),
     (b"airy 1\ndim 1\n", 3, LineKind::NoEnd),
@@ -122,6 +122,99 @@ fn are_refused(alloc: Global, texts: &[(&[u8], u32, LineKind)]) -> Result<bool, 
 #[test]
 fn the_first_refused_line(rt: HostRuntime) -> Result<(), Fail> {
     assert!(rt; are_refused(rt.alloc(), &BROKEN)?);
+    Ok(())
+}
+
+const UNSHAPED: [(&[u8], u32, LineKind); 17] = [
+    (b"airy 2\ndim 0\nshape\n", 2, LineKind::Dim),
+    (b"airy 2\ndim 1\n# note\n", 4, LineKind::Shape),
+    (b"airy 2\ndim 1\nend\n", 3, LineKind::Shape),
+    (b"airy 2\ndim 1\nshape\n", 3, LineKind::Shape),
+    (b"airy 2\ndim 1\nSHAPE all\n", 3, LineKind::Shape),
+    (b"airy 2\ndim 1\nshape none\n", 3, LineKind::Shape),
+    (b"airy 2\ndim 1\nshape all letter\n", 3, LineKind::Shape),
+    (b"airy 2\ndim 1\nshape exact 3\n", 3, LineKind::Shape),
+    (
+        b"airy 2\ndim 1\nshape exact 3 1 letter\n",
+        3,
+        LineKind::Shape,
+    ),
+    (b"airy 2\ndim 1\nshape exact 100 1\n", 3, LineKind::Shape),
+    (b"airy 2\ndim 1\nshape exact 3 -001\n", 3, LineKind::Shape),
+    (b"airy 2\ndim 1\nshape exact +-3 1\n", 3, LineKind::Shape),
+    (b"airy 2\ndim 1\nshape atmost 3 -\n", 3, LineKind::Shape),
+    (b"airy 2\ndim 1\nshape atmost 3 1 a\n", 3, LineKind::Shape),
+    (
+        b"airy 2\ndim 1\nshape atmost 3 1 letter letter\n",
+        3,
+        LineKind::Shape,
+    ),
+    (b"airy 2\ndim 1\nshape all\nshape all\n", 4, LineKind::Word),
+    (b"airy 1\ndim 1\nshape all\nend\n", 3, LineKind::Word),
+];
+
+#[test]
+fn shape_lines_that_are_refused(rt: HostRuntime) -> Result<(), Fail> {
+    assert!(rt; are_refused(rt.alloc(), &UNSHAPED)?);
+    Ok(())
+}
+
+const UNGRADED: [(&[u8], u32, LineKind); 10] = [
+    (
+        b"airy 2\ndim 2\nshape exact 3 1\nB 0 0 0\n",
+        4,
+        LineKind::Count,
+    ),
+    (
+        b"airy 2\ndim 2\nshape exact 3 1\nB 0 0 2 1\n",
+        4,
+        LineKind::Index,
+    ),
+    (
+        b"airy 2\ndim 2\nshape exact 3 1\nB 0 0 0 1/0\n",
+        4,
+        LineKind::Number,
+    ),
+    (
+        b"airy 2\ndim 2\nshape exact 3 1\nB 0 0 0 1\n",
+        4,
+        LineKind::Grade,
+    ),
+    (
+        b"airy 2\ndim 2\nshape exact 3 1\nA 0 0 1 1\n",
+        4,
+        LineKind::Grade,
+    ),
+    (
+        b"airy 2\ndim 3\nshape exact 3 1\nC 2 0 0 1\nC 1 0 0 1\n",
+        5,
+        LineKind::Grade,
+    ),
+    (
+        b"airy 2\ndim 3\nshape atmost 3 1\nD 0 1\nD 1 1\nD 2 1\n",
+        6,
+        LineKind::Grade,
+    ),
+    (
+        b"airy 2\ndim 2\nshape exact 3 1\nB 0 1 0 1\nB 0 1 0 1\n",
+        5,
+        LineKind::Twice,
+    ),
+    (
+        b"airy 2\ndim 2\nshape exact 3 1\nB 0 0 0 0\n",
+        5,
+        LineKind::NoEnd,
+    ),
+    (
+        b"airy 2\ndim 2\nshape exact 3 1\nend\nB 0 0 0 1\n",
+        5,
+        LineKind::After,
+    ),
+];
+
+#[test]
+fn entries_that_break_the_grading(rt: HostRuntime) -> Result<(), Fail> {
+    assert!(rt; are_refused(rt.alloc(), &UNGRADED)?);
     Ok(())
 }
 
@@ -289,16 +382,95 @@ fn is_cut_short(alloc: Global, tensors: &Tensors) -> bool {
 
 fn has_canonical_order(alloc: Global) -> Result<bool, Fail> {
     let tensors = disordered(alloc)?;
-    Ok(
-        tensors.dim() == 12
-            && tensors.shape() == Shape::All
-            && is_ordered(alloc, &tensors)
-            && is_cut_short(alloc, &tensors),
-    )
+    Ok(tensors.dim() == 12 && is_ordered(alloc, &tensors) && is_cut_short(alloc, &tensors))
 }
 
 #[test]
 fn the_canonical_order(rt: HostRuntime) -> Result<(), Fail> {
     assert!(rt; has_canonical_order(rt.alloc())?);
+    Ok(())
+}
+
+/// Texts, the law of each with whether indices keep it exactly and whether there is a letter, and what is written again.
+const LAWS: [(&[u8], i32, i32, bool, bool, &[u8]); 4] = [
+    (
+        b"airy 2\ndim 3\nshape exact +3 01\nD 1 1/8\nC 2 0 0 1\nB 1 1 1 3\nB 0 1 0 1\nB 0 0 0 -0\nA 0 0 0 1\nend",
+        3,
+        1,
+        true,
+        false,
+        b"airy 2\ndim 3\nshape exact 3 1\nA 0 0 0 1\nB 0 1 0 1\nB 1 1 1 3\nC 2 0 0 1\nD 1 1/8\nend\n",
+    ),
+    (
+        b"airy 2\ndim 2\nshape exact 1 -0\nC 1 0 0 1\nB 1 0 1 3\nD 0 1/8\nend\n",
+        1,
+        0,
+        true,
+        false,
+        b"airy 2\ndim 2\nshape exact 1 0\nB 1 0 1 3\nC 1 0 0 1\nD 0 1/8\nend\n",
+    ),
+    (
+        b"# note\nairy 2\ndim 2\n\nshape atmost 3 1 letter\nA 0 0 0 1\nD 0 1/12\nD 1 1/8\nend\n",
+        3,
+        1,
+        false,
+        true,
+        b"airy 2\ndim 2\nshape atmost 3 1 letter\nA 0 0 0 1\nD 0 1/12\nD 1 1/8\nend\n",
+    ),
+    (
+        b"airy 2\ndim 32\nshape\tatmost -99 -09\nB 0 0 31 1\nend\n",
+        -99,
+        -9,
+        false,
+        false,
+        b"airy 2\ndim 32\nshape atmost -99 -9\nB 0 0 31 1\nend\n",
+    ),
+];
+
+fn shape_of(per_g: i32, per_n: i32, exact: bool) -> Shape {
+    let law = Law { per_g, per_n };
+    if exact {
+        Shape::Exact(law)
+    } else {
+        Shape::AtMost(law)
+    }
+}
+
+/// Whether a text has this shape, and a letter or none, and is written again as that one.
+fn is_shaped(
+    alloc: Global,
+    text: &[u8],
+    shape: Shape,
+    letter: bool,
+    written: &[u8],
+) -> Result<bool, Fail> {
+    let tensors = tensors_of(alloc, text)?;
+    Ok(
+        tensors.shape() == shape
+            && tensors.letter() == letter
+            && is_written(alloc, &tensors, Vec::new(alloc), Ok(()), written),
+    )
+}
+
+fn are_laws(alloc: Global, rows: &[(&[u8], i32, i32, bool, bool, &[u8])]) -> Result<bool, Fail> {
+    for (text, per_g, per_n, exact, letter, written) in rows {
+        let shape = shape_of(*per_g, *per_n, *exact);
+        if !is_shaped(alloc, *text, shape, *letter, *written)? {
+            return Ok(false);
+        }
+    }
+    Ok(true)
+}
+
+#[test]
+fn laws_are_read_and_written_again(rt: HostRuntime) -> Result<(), Fail> {
+    assert!(rt; are_laws(rt.alloc(), &LAWS)?);
+    Ok(())
+}
+
+#[test]
+fn every_shape_is_written_without_one(rt: HostRuntime) -> Result<(), Fail> {
+    let text = b"airy 2\ndim 1\nshape all\nA 0 0 0 1\nB 0 0 0 1\nC 0 0 0 1\nD 0 1/8\nend\n";
+    assert!(rt; is_shaped(rt.alloc(), text.as_slice(), Shape::All, false, ONES)?);
     Ok(())
 }

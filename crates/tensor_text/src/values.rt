@@ -1,5 +1,5 @@
-ghost use Rattle.std.specs.Prelude.{◌≡◌, ◌==◌, ◌^◌, ◌≤◌, ◌<◌, ◌+◌, ◌*◌, length, SomeIff, IfSome, Some, pos};
-ghost use Rattle.tensor_text.specs.Values.{below, number_of, whole_of, denominator_of, size_of, read_value_of};
+ghost use Rattle.std.specs.Prelude.{◌≡◌, ◌==◌, ◌^◌, ◌≤◌, ◌≤ℤ◌, ◌<◌, ◌+◌, ◌*◌, length, SomeIff, IfSome, Some, pos, negsuc};
+ghost use Rattle.tensor_text.specs.Values.{below, number_of, short_of, signed_of, whole_of, denominator_of, size_of, read_value_of};
 ghost use Rattle.airy_math.specs.Rational.{◌/ℚ◌};
 
 use crate::places::place_of;
@@ -31,6 +31,34 @@ fn with_digit(number: u128, digit: u8, limit: u128) -> Option<u128>
 {
     let longer = number.checked_mul(10)?.checked_add(digit as u128)?;
     if longer < limit { Some(longer) } else { None }
+}
+
+/// The number of a word of one digit or two.
+#[tactic(auto, using(crate::proofs::ValueLemmas::below_fits))]
+fn read_short(word: &[u8]) -> Option<u8>
+    ensures value { result ≡ short_of word.now }
+    ensures most { IfSome result (λ n. n ≤ 99) }
+{
+    if word.len() > 2 {
+        return None;
+    }
+    let number = read_number(word, 100)?;
+    Some(number as u8)
+}
+
+/// A number of a law: an optional sign, then one digit or two.
+#[tactic(auto, unfolding(crate::specs::Values::signed_of))]
+pub(crate) fn read_signed(word: &[u8]) -> Option<i32>
+    ensures value { result ≡ signed_of word.now }
+    ensures least { IfSome result (λ z. negsuc 98 ≤ℤ z) }
+    ensures most { IfSome result (λ z. z ≤ℤ pos 99) }
+{
+    let (sign, size) = word.split_first()?;
+    match sign {
+        b'+' => Some(read_short(size)? as i32),
+        b'-' => Some(-(read_short(size)? as i32)),
+        _ => Some(read_short(word)? as i32),
+    }
 }
 
 /// The number of a word, from 0 to 2^127-1.

@@ -2,7 +2,7 @@ ghost use Rattle.std.specs.Prelude.{◌≡◌, ◌==◌, ◌&&◌, ◌∷◌, �
 ghost use Rattle.std.specs.Option.{option_map};
 ghost use Rattle.std.specs.Str.{bytes_eq};
 ghost use Rattle.tensor_text.specs.Lines.{words};
-ghost use Rattle.tensor_text.specs.Grammar.{only_word, two_words, place_words, letter_of, is_header, dim_line};
+ghost use Rattle.tensor_text.specs.Grammar.{only_word, two_words, place_words, letter_of, header_line, dim_line};
 ghost use Rattle.tensor_text.specs.Values.{index_of, dim_of};
 ghost use Rattle.tensor_text.specs.Steps.{fields_seen};
 
@@ -88,14 +88,21 @@ pub(crate) fn letter_of(word: &[u8]) -> Option<Letter>
     }
 }
 
-/// Whether a line is `airy 1`.
-#[tactic(auto, unfolding(crate::specs::Grammar::is_header, crate::specs::Grammar::is_version))]
-pub(crate) fn is_header(word: &[u8], more: &[u8]) -> bool
-    ensures { result ≡ is_header (word.now ∷ words more.now) }
+/// Whether a header has a shape line behind the dim line: not that of `airy 1`, that of `airy 2`.
+#[tactic(auto, unfolding(crate::specs::Grammar::header_line, crate::specs::Grammar::version_of))]
+pub(crate) fn read_header(word: &[u8], more: &[u8]) -> Option<bool>
+    ensures { result ≡ header_line (word.now ∷ words more.now) }
 {
-    match only_word(more) {
-        Some(version) => word == b"airy".as_slice() && version == b"1".as_slice(),
-        None => false,
+    if word != b"airy".as_slice() {
+        return None;
+    }
+    let version = only_word(more)?;
+    if version == b"1".as_slice() {
+        Some(false)
+    } else if version == b"2".as_slice() {
+        Some(true)
+    } else {
+        None
     }
 }
 

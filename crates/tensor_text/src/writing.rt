@@ -1,9 +1,9 @@
 ghost use Rattle.std.specs.Prelude.{◌≡◌, ◌≤◌, ◌<◌, ◌+◌, ◌++◌, codes, length};
 ghost use Rattle.airy_math.specs.Rational.{ℚ};
-ghost use Rattle.airy_math.specs.declared.Shape.TheVariants.{All};
+ghost use Rattle.std.specs.Fmt.{signed_decimal};
 ghost use Rattle.frac128.specs.Fraction.{fraction_text};
 ghost use Rattle.sparse_tensor.specs.Entries.{Entry};
-ghost use Rattle.tensor_text.specs.Canonical.{spaced, place_text, index_text, dim_text, canonical_text};
+ghost use Rattle.tensor_text.specs.Canonical.{spaced, place_text, index_text, dim_text, header_text, law_text, letter_word, shape_text, first_text, entries_text, canonical_text};
 ghost use Rattle.tensor_text.specs.Pieces.{place_piece, row_piece, plane_piece, places_piece, index_piece, indices_piece};
 ghost use Rattle.airy_io.specs.Causes.{Writes};
 ghost use Rattle.tensor_text.specs.Grammar.{reading_of, Read};
@@ -11,7 +11,7 @@ ghost use Rattle.tensor_text.specs.Grammar.{reading_of, Read};
 use crate::letters::Letter;
 use airy_io::{Failed, LineText, Sink, write_all};
 use frac128::Frac;
-use sparse_tensor::Tensors;
+use sparse_tensor::{Law, Shape, Tensors};
 
 /// Puts a space and a number at the end of a line.
 fn put_spaced(line: &mut LineText, n: u8)
@@ -68,6 +68,17 @@ fn write_index_entry<W: Sink>(i: u8, v: Frac, out: &mut W) -> Result<(), Failed>
     write_all(out, line.bytes())
 }
 
+/// Writes the header.
+#[tactic(auto, unfolding(crate::specs::Canonical::header_text))]
+fn write_header<W: Sink>(t: &Tensors, out: &mut W) -> Result<(), Failed>
+    ensures { Writes (header_text t.now.shape) (W.state out.old) (W.state out.new) result }
+{
+    match t.shape() {
+        Shape::All => write_all(out, b"airy 1\n"),
+        Shape::Exact(_) | Shape::AtMost(_) => write_all(out, b"airy 2\n"),
+    }
+}
+
 /// Writes the dim line.
 #[tactic(auto, unfolding(crate::specs::Canonical::dim_text))]
 fn write_dim<W: Sink>(t: &Tensors, out: &mut W) -> Result<(), Failed>
@@ -78,6 +89,72 @@ fn write_dim<W: Sink>(t: &Tensors, out: &mut W) -> Result<(), Failed>
     put_spaced(&mut line, t.dim());
     line.put(b"\n");
     write_all(out, line.bytes())
+}
+
+/// Puts a space and a number of a law at the end of a line.
+fn put_signed(line: &mut LineText, z: i32)
+    requires { length line.old + 12 ≤ 512 }
+    ensures text { line.new ≡ line.old ++ codes " " ++ signed_decimal z }
+    ensures short { length line.new ≤ length line.old + 12 }
+{
+    line.put(b" ");
+    if z < 0 {
+        line.put(b"-");
+    }
+    line.put_number(z.unsigned_abs());
+}
+
+/// Puts the numbers of a law at the end of a line.
+fn put_law(line: &mut LineText, law: Law)
+    requires { length line.old + 24 ≤ 512 }
+    ensures text { line.new ≡ line.old ++ law_text law }
+    ensures short { length line.new ≤ length line.old + 24 }
+{
+    put_signed(line, law.per_g);
+    put_signed(line, law.per_n);
+}
+
+/// The word `letter` behind a space, where there is a letter.
+fn letter_word(letter: bool) -> &'static [u8]
+    ensures word { result.now ≡ letter_word letter }
+    ensures short { length result.now ≤ 7 }
+{
+    if letter { b" letter" } else { b"" }
+}
+
+/// Writes a shape line: its first words, the numbers of its law, and what stands behind them.
+fn write_law<W: Sink>(words: &[u8], law: Law, behind: &[u8], out: &mut W) -> Result<(), Failed>
+    requires words { length words.now ≤ 12 }
+    requires behind { length behind.now ≤ 7 }
+    ensures { Writes (words.now ++ law_text law ++ behind.now ++ codes "\n") (W.state out.old) (W.state out.new) result }
+{
+    let mut line = LineText::new();
+    line.put(words);
+    put_law(&mut line, law);
+    line.put(behind);
+    line.put(b"\n");
+    write_all(out, line.bytes())
+}
+
+/// Writes the shape line, where there is a law.
+#[tactic(auto, unfolding(crate::specs::Canonical::shape_text))]
+fn write_shape<W: Sink>(t: &Tensors, out: &mut W) -> Result<(), Failed>
+    ensures { Writes (shape_text t.now.shape t.now.letter) (W.state out.old) (W.state out.new) result }
+{
+    match t.shape() {
+        Shape::All => Ok(()),
+        Shape::Exact(law) => write_law(b"shape exact", law, b"", out),
+        Shape::AtMost(law) => write_law(b"shape atmost", law, letter_word(t.letter()), out),
+    }
+}
+
+/// Writes the first lines.
+fn write_first<W: Sink>(t: &Tensors, out: &mut W) -> Result<(), Failed>
+    ensures { Writes (first_text t.now) (W.state out.old) (W.state out.new) result }
+{
+    write_header(t, out)?;
+    write_dim(t, out)?;
+    write_shape(t, out)
 }
 
 /// Writes the line of a place of A, B or C, where its value isn't 0.
@@ -152,13 +229,11 @@ fn write_indices<W: Sink>(t: &Tensors, out: &mut W) -> Result<(), Failed>
     Ok(())
 }
 
-/// Writes the header, the dim, the entries and `end`.
-fn write_text<W: Sink>(t: &Tensors, out: &mut W) -> Result<(), Failed>
-    ensures { Writes (canonical_text t.now) (W.state out.old) (W.state out.new) result }
+/// Writes the entries and `end`.
+fn write_entries<W: Sink>(t: &Tensors, out: &mut W) -> Result<(), Failed>
+    ensures { Writes (entries_text t.now) (W.state out.old) (W.state out.new) result }
 {
     t.soundness_fact();
-    write_all(out, b"airy 1\n")?;
-    write_dim(t, out)?;
     write_places(Letter::A, t, out)?;
     write_places(Letter::B, t, out)?;
     write_places(Letter::C, t, out)?;
@@ -166,13 +241,21 @@ fn write_text<W: Sink>(t: &Tensors, out: &mut W) -> Result<(), Failed>
     write_all(out, b"end\n")
 }
 
-/// Writes the canonical text of tensors of shape All: the header `airy 1`, the dim, the entries of A with j at most k by
-/// (i,j,k) ascending, those of B, those of C with j at most k, those of D by i ascending, and `end`, each on a line of
-/// its own. Dim is at most 32. It takes no memory. After `Failed` a prefix was written. The grammar reads the canonical
-/// text back as the same tensors.
+/// Writes the first lines, the entries and `end`.
+fn write_text<W: Sink>(t: &Tensors, out: &mut W) -> Result<(), Failed>
+    ensures { Writes (canonical_text t.now) (W.state out.old) (W.state out.new) result }
+{
+    write_first(t, out)?;
+    write_entries(t, out)
+}
+
+/// Writes the canonical text of tensors: the header, which is `airy 1` where the shape is All and else `airy 2`, the dim,
+/// for `airy 2` the shape line with the law's two numbers and the word `letter` where there is one, the entries of A with j
+/// at most k by (i,j,k) ascending, those of B, those of C with j at most k, those of D by i ascending, and `end`, each on a
+/// line of its own. Dim is at most 32. It takes no memory. After `Failed` a prefix was written. The grammar reads the
+/// canonical text back as the same tensors, with their shape and letter.
 pub fn write_tensors<W: Sink>(t: &Tensors, out: &mut W) -> Result<(), Failed>
-    requires shape { t.now.shape ≡ All }
-    requires dim { t.now.dim ≤ 32 }
+    requires { t.now.dim ≤ 32 }
     ensures written { Writes (canonical_text t.now) (W.state out.old) (W.state out.new) result }
     ensures back { reading_of (canonical_text t.now) ≡ Read t.now }
 {

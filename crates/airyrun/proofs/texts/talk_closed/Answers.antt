@@ -6,7 +6,7 @@ use Rattle.airyrun.specs.Tables.{text_structure}
 use Rattle.command_words.specs.Options.{lines_of}
 use Rattle.command_words.specs.Asked.{parted_of}
 use Rattle.airyrun.proofs.HeadlineLemmas.{within_bound}
-use Rattle.airyrun.proofs.TextLemmas.{text_sound}
+use Rattle.airyrun.proofs.TextLemmas.{are_closed, text_sound}
 use Rattle.airyrun.proofs.TalkLemmas.{stored-leads, closed-leads, fails-leads, text-planned, text-made}
 use Rattle.airyrun.proofs.texts.talk_closed.Goals as goal
 
@@ -17,7 +17,7 @@ returns-in-Closed g c =
     (stored-leads (text_structure t) X c.args.workers lines _ _ _ t c.job_uniqueness.ensures c.planned_once.ensures c.below_dim.ensures c.same_tables.ensures (text_sound t c.soundness_fact.ensures)
     (within_bound X c.requires.bound) c.requires.bound (text-made t X) (text-planned t X) c.talk_script.ensures)
     (c.in-Closed.ensures.found ∙ ap (verdict (looked_up t)) c.dim-dim.ensures)
-    (subst (Close (looked_up t)) c.dim-dim.ensures (c.in-Closed.ensures.closed refl))
+    (are_closed c.widened_relations.ensures t c.soundness_fact.ensures.graded (subst (Close (looked_up t)) c.dim-dim.ensures (c.in-Closed.ensures.closed refl)))
 
 pub returns-in_default : goal.returns-in_default
 returns-in_default g c =

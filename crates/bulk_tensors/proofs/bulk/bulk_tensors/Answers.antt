@@ -20,9 +20,13 @@ plus_zero n = omega arith
 plus_one : (n r : ℕ) → n + r + 1 ≡ n + (r + 1)
 plus_one n r = omega arith
 
+pub returns-in_err-full-clause-over : goal.returns-in_err-full-clause-over
+unfolding NamesStep
+returns-in_err-full-clause-over c = let p = err_from_is_err_and c.from_residual.result c.from_residual.ensures.1 in rw (p.1, p.2) tt
+
 pub loop-r-init : goal.loop-r-init
 unfolding after first_refused
-loop-r-init c = (c.diagonal-full.ensures.entries, refl, c.diagonal-full.ensures.draws ∙ ap (state c.args.seed) (plus_zero (4 * c.args.dim)))
+loop-r-init c = (c.set_diagonal.ensures.entries, refl, c.set_diagonal.ensures.draws ∙ ap (state c.args.seed) (plus_zero (4 * c.args.dim)))
 
 pub change-requires : goal.change-requires
 unfolding listed
@@ -39,7 +43,7 @@ returns-in_err-change-clause-over c =
     let drawn = c.draw.ensures.drawn seed (4 * c.args.dim + r) c.loop-r.invariant.2 in
     let t : c.whole-t.result ≡ (pos (c.draw.result % 3) -ℤ pos 1) /ℚ 1 = search rules in
     let is_factor : c.whole-t.result ≡ factor seed c.args.dim r = t ∙ ap (λ n. (pos (n % 3) -ℤ pos 1) /ℚ 1) drawn.0 in
-    let p = err_from_is_err_and c.from_residual.result c.from_residual.ensures.1 in
+    let p = err_from_is_err_and c.from_residual-in_err-change.result c.from_residual-in_err-change.ensures.1 in
     rw (p.1, p.2) (names_change seed c.args.dim r c.whole-t.result (listed c.loop-r.full) c.in_err-change.field-0.0 (omega arith) (omega arith) is_factor c.loop-r.invariant.0 c.loop-r.invariant.1 c.in_err-change.ensures.over)
 
 pub loop-r-preserved : goal.loop-r-preserved

@@ -1,33 +1,4 @@
-use Rattle.std.proofs.Common.{◌≡◌, ℕ, ◌+◌, ◌<◌, List, [], ◌∷◌, ◌++◌, length, get_or, ap, ◌∙◌, subst, arith}
-use Rattle.std.proofs.lemmas.List.{length-append}
-use Rattle.std.proofs.Math.ListN.{get_or-append}
-use Rattle.std.proofs.Math.Seq.{get_or-append_seam}
-use Rattle.cell_words.specs.Resuming.{IsNew}
-use Rattle.cell_words.specs.declared.countdown.CountSeat.{CountSeat}
 use Rattle.cell_words.proofs.tests.last_seats.Goals as goal
 
--- What holds of each seat at its place holds of the last, and of each of the rest.
-module _ (P : ℕ → CountSeat → Type 0) (all rest : List CountSeat) (own : CountSeat) (is : all ≡ rest ++ own ∷ []) (each : (k : ℕ) (d : CountSeat) → k < length all → P k (get_or all k d)) where
-  long : length all ≡ length rest + 1
-  long = ap length is ∙ length-append rest (own ∷ [])
-
-  last : P (length rest) own
-  last = subst (P (length rest)) (ap (λ ss. get_or ss (length rest) own) is ∙ get_or-append_seam rest own [] own) (each (length rest) own (omega (arith, long)))
-
-  front : (k : ℕ) (d : CountSeat) → k < length rest → P k (get_or rest k d)
-  front k d l = subst (P k) (ap (λ ss. get_or ss k d) is ∙ get_or-append rest (own ∷ []) d k l) (each k d (omega (arith, long, l)))
-
-pub returns-clause-second : goal.returns-clause-second
-returns-clause-second c =
-    let new = IsNew c.in-Ok.board in let all = c.in-Ok.seats in let rest = c.pop.new.self.items in let own = c.in-Some.second in
-    let each : (k : ℕ) (d : CountSeat) → k < length all.items → new k (get_or all.items k d) = λ k d l. c.in-Ok.ensures.seats k d (omega (arith, l, c.in-Ok.ensures.len, all.ok.0)) in
-    subst (λ k. new k own) (omega (arith, long new all.items rest own c.in-Some.ensures.items each, c.in-Ok.ensures.len, all.ok.0)) (last new all.items rest own c.in-Some.ensures.items each)
-
-pub returns-clause-first : goal.returns-clause-first
-returns-clause-first c =
-    let new = IsNew c.in-Ok.board in let all = c.in-Ok.seats in let rest = c.pop.new.self.items in let own = c.in-Some.second in
-    let rest' = c.pop-2.new.self.items in let own' = c.in-Some-pop.first in
-    let each : (k : ℕ) (d : CountSeat) → k < length all.items → new k (get_or all.items k d) = λ k d l. c.in-Ok.ensures.seats k d (omega (arith, l, c.in-Ok.ensures.len, all.ok.0)) in
-    let before = front new all.items rest own c.in-Some.ensures.items each in
-    subst (λ k. new k own') (omega (arith, long new all.items rest own c.in-Some.ensures.items each, long new rest rest' own' c.in-Some-pop.ensures.items before, c.in-Ok.ensures.len, all.ok.0))
-    (last new rest rest' own' c.in-Some-pop.ensures.items before)
+pub last_two-first-requires-clause-each : goal.last_two-first-requires-clause-each
+last_two-first-requires-clause-each c = λ k d l. let s = c.in-Ok.ensures.seats k d l in (s.seat, s.held, s.number)

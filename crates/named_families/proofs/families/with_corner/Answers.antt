@@ -2,7 +2,7 @@ use Rattle.std.proofs.Common.{◌≡◌, ap, ◌∙◌}
 use Rattle.airy_math.specs.RationalLaws.{1ℚ}
 use Rattle.sparse_tensor.specs.Entries.{Entries, no_entries}
 use Rattle.sparse_tensor.specs.Puts.{Free, putting_a, with_a}
-use Rattle.named_families.proofs.FillLemmas.{wanting, at_ok}
+use Rattle.sparse_tensor.proofs.PutFacts.{allowed_free, at_ok}
 use Rattle.named_families.proofs.BeginLemmas.{free-a, begun}
 use Rattle.named_families.proofs.families.with_corner.Goals as goal
 
@@ -13,10 +13,7 @@ unless_wanting-requires c =
     ap (λ (t : Entries). putting_a t 0 0 0 c.whole.result) c.in_ok-tensors.ensures
     ∙ ap (putting_a (no_entries c.args.dim c.args.shape c.args.letter) 0 0 0) c.whole.ensures
     ∙ free-a c.args.dim c.args.shape c.args.letter c.requires.some c.requires.most c.requires.law c.requires.letter c.requires.graded in
-    wanting c.put_a.result
-    (λ h. let e = c.put_a.ensures.index.0 h in cc)
-    (λ h. let e = c.put_a.ensures.grade.0 h in cc)
-    (λ h. let e = c.put_a.ensures.twice.0 h in cc)
+    c.put_a.ensures.allowed (allowed_free _ free)
 
 pub returns : goal.returns
 unfolding 1ℚ

@@ -3,7 +3,8 @@ use Rattle.std.proofs.lemmas.Result.{on_ok_weaker}
 use Rattle.sparse_tensor.specs.Entries.{Entries}
 use Rattle.sparse_tensor.specs.Puts.{Free, putting_d, with_d}
 use Rattle.named_families.specs.Exact.{FillsD}
-use Rattle.named_families.proofs.FillLemmas.{wanting, free-d, next-d, skip-d, at_ok, others-d}
+use Rattle.sparse_tensor.proofs.PutFacts.{allowed_free, at_ok}
+use Rattle.named_families.proofs.FillLemmas.{free-d, next-d, skip-d, others-d}
 use Rattle.named_families.proofs.filling.fill_d.Goals as goal
 
 pub returns-then-shift-dim-clause-filled : goal.returns-then-shift-dim-clause-filled
@@ -15,10 +16,7 @@ unless_wanting-requires c =
     let below : c.args.shift < t.dim = omega arith in
     let free : putting_d t c.args.shift c.eighth.result ≡ Free =
     ap (putting_d t c.args.shift) c.eighth.ensures ∙ free-d c.args.shift t c.soundness_fact.ensures.entries c.requires.shape c.requires.before below in
-    wanting c.put_d.result
-    (λ h. let e = c.put_d.ensures.index.0 h in cc)
-    (λ h. let e = c.put_d.ensures.grade.0 h in cc)
-    (λ h. let e = c.put_d.ensures.twice.0 h in cc)
+    c.put_d.ensures.allowed (allowed_free _ free)
 
 pub returns-clause-filled : goal.returns-clause-filled
 returns-clause-filled c =

@@ -4,7 +4,8 @@ use Rattle.airy_math.specs.Rational.{whole}
 use Rattle.sparse_tensor.specs.Entries.{Entries}
 use Rattle.sparse_tensor.specs.Puts.{Free, putting_b, with_b}
 use Rattle.named_families.specs.Exact.{FillsB}
-use Rattle.named_families.proofs.FillLemmas.{wanting, free-b, next-b, skip-b, at_ok, others-b}
+use Rattle.sparse_tensor.proofs.PutFacts.{allowed_free, at_ok}
+use Rattle.named_families.proofs.FillLemmas.{free-b, next-b, skip-b, others-b}
 use Rattle.named_families.proofs.filling.fill_place_b.Goals as goal
 use Rattle.named_families.proofs.filling.fill_place_b.Goals.{then-sum-shift-via-then-sum-shift, then-sum-shift-via-else-sum-shift+then-sum-shift-2}
 
@@ -25,10 +26,7 @@ unless_wanting-requires c =
     let value : c.whole-value.result ≡ whole (2 * c.args.j + 1) = unfold whole in search rules in
     let free : putting_b t c.args.i c.args.j k c.whole-value.result ≡ Free =
     ap (putting_b t c.args.i c.args.j k) value ∙ free-b c.args.shift c.args.i c.args.j k t c.soundness_fact.ensures.entries c.requires.shape c.requires.before c.requires.first c.requires.second below sum in
-    wanting c.put_b.result
-    (λ h. let e = c.put_b.ensures.index.0 h in cc)
-    (λ h. let e = c.put_b.ensures.grade.0 h in cc)
-    (λ h. let e = c.put_b.ensures.twice.0 h in cc)
+    c.put_b.ensures.allowed (allowed_free _ free)
 
 pub returns-clause-filled : goal.returns-clause-filled
 returns-clause-filled c =

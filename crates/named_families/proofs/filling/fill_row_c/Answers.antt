@@ -3,7 +3,8 @@ use Rattle.airy_math.specs.RationalLaws.{1ℚ}
 use Rattle.sparse_tensor.specs.Entries.{Entries}
 use Rattle.sparse_tensor.specs.Puts.{Free, putting_c, with_c}
 use Rattle.named_families.specs.Exact.{exact_shape, FillsC}
-use Rattle.named_families.proofs.FillLemmas.{wanting, free-c, next-c, end-c, at_ok, others-c}
+use Rattle.sparse_tensor.proofs.PutFacts.{allowed_free, at_ok}
+use Rattle.named_families.proofs.FillLemmas.{free-c, next-c, end-c, others-c}
 use Rattle.named_families.proofs.filling.fill_row_c.Goals as goal
 
 pub returns-then-i-shift-clause-filled : goal.returns-then-i-shift-clause-filled
@@ -23,10 +24,7 @@ unless_wanting-requires c =
     let sum : c.args.i ≡ j + k + c.args.shift + 1 = omega arith in
     let free : putting_c t c.args.i j k c.whole.result ≡ Free =
     ap (putting_c t c.args.i j k) c.whole.ensures ∙ free-c c.args.shift c.args.i j k t c.soundness_fact.ensures.entries shape c.loop-j.invariant.0 below ordered sum in
-    wanting c.put_c.result
-    (λ h. let e = c.put_c.ensures.index.0 h in cc)
-    (λ h. let e = c.put_c.ensures.grade.0 h in cc)
-    (λ h. let e = c.put_c.ensures.twice.0 h in cc)
+    c.put_c.ensures.allowed (allowed_free _ free)
 
 pub loop-j-preserved : goal.loop-j-preserved
 unfolding 1ℚ

@@ -7,7 +7,8 @@ use Rattle.sparse_tensor.specs.Entries.{Entries}
 use Rattle.named_families.specs.Families.{Names}
 use Rattle.named_families.specs.Filling.{FillsWpB}
 use Rattle.named_families.specs.Steps.{obtained_number}
-use Rattle.named_families.proofs.FillLemmas.{wanting, at_ok, others-b}
+use Rattle.sparse_tensor.proofs.PutFacts.{at_ok}
+use Rattle.named_families.proofs.FillLemmas.{others-b}
 use Rattle.named_families.proofs.StepLemmas.{held}
 use Rattle.named_families.proofs.PeterssonLaw.{place-fine, place-refused, room-b, next-b}
 use Rattle.named_families.proofs.petersson.fill_place_b.Goals as goal
@@ -24,7 +25,7 @@ returns-in_default-clause-over c =
 pub unless_wanting-requires : goal.unless_wanting-requires
 unless_wanting-requires c =
     let put = room-b c.args.most c.args.i c.args.j c.args.k c.args.tensors.now c.in-Some.value c.soundness_fact.ensures.entries c.requires.shape c.requires.before c.requires.first c.requires.second c.requires.third c.requires.reached in
-    wanting c.put_b.result (λ h. put.allowed.inside (c.put_b.ensures.index.0 h)) (λ h. put.allowed.graded (c.put_b.ensures.grade.0 h)) (λ h. put.allowed.once (c.put_b.ensures.twice.0 h))
+    c.put_b.ensures.allowed put.allowed
 
 pub returns-in_err-unless_wanting-clause-over : goal.returns-in_err-unless_wanting-clause-over
 unfolding Names

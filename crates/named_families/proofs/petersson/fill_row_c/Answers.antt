@@ -5,7 +5,8 @@ use Rattle.sparse_tensor.specs.Entries.{Entries}
 use Rattle.sparse_tensor.specs.Puts.{with_c}
 use Rattle.named_families.specs.Filling.{FillsWpC}
 use Rattle.named_families.specs.Steps.{obtained_number}
-use Rattle.named_families.proofs.FillLemmas.{wanting, at_ok, others-c}
+use Rattle.sparse_tensor.proofs.PutFacts.{at_ok}
+use Rattle.named_families.proofs.FillLemmas.{others-c}
 use Rattle.named_families.proofs.PeterssonLaw.{room-c, next-c, skip-c, row-c}
 use Rattle.named_families.proofs.StepLemmas.{held}
 use Rattle.named_families.proofs.petersson.fill_row_c.Goals as goal
@@ -25,7 +26,7 @@ unless_wanting-requires c =
     let dim : t.dim ≡ c.args.tensors.now.dim = ap (λ (u : Entries). u.dim) c.loop-k.invariant.1 in
     let shape : t.shape ≡ wp_shape = ap (λ (u : Entries). u.shape) c.loop-k.invariant.1 ∙ c.requires.shape in
     let put = room-c c.args.most c.args.i c.args.j k t _ c.soundness_fact-in-loop-k.ensures.entries shape c.loop-k.invariant.0 (omega arith) (omega arith) (omega arith) c.loop-k.invariant.2 c.loop-k.invariant.3 in
-    wanting c.put_c.result (λ h. put.allowed.inside (c.put_c.ensures.index.0 h)) (λ h. put.allowed.graded (c.put_c.ensures.grade.0 h)) (λ h. put.allowed.once (c.put_c.ensures.twice.0 h))
+    c.put_c.ensures.allowed put.allowed
 
 pub loop-k-preserved : goal.loop-k-preserved
 loop-k-preserved c =

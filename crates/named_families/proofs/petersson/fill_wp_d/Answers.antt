@@ -3,7 +3,8 @@ use Rattle.std.proofs.lemmas.Result.{on_ok_weaker}
 use Rattle.airy_math.specs.Rational.{◌/ℚ◌}
 use Rattle.sparse_tensor.specs.Entries.{Entries}
 use Rattle.sparse_tensor.specs.Puts.{Free, putting_d, with_d}
-use Rattle.named_families.proofs.FillLemmas.{wanting, at_ok, others-d}
+use Rattle.sparse_tensor.proofs.PutFacts.{allowed_free, at_ok}
+use Rattle.named_families.proofs.FillLemmas.{others-d}
 use Rattle.named_families.proofs.PeterssonLaw.{free-d0, free-d1, single-d, double-d}
 use Rattle.named_families.proofs.petersson.fill_wp_d.Goals as goal
 
@@ -14,10 +15,7 @@ pub unless_wanting-requires : goal.unless_wanting-requires
 unless_wanting-requires c =
     let t = c.args.tensors.now in
     let free : putting_d t 0 c.twelfth.result ≡ Free = ap (putting_d t 0) c.twelfth.ensures ∙ free-d0 t c.soundness_fact.ensures.entries c.requires.shape c.requires.before in
-    wanting c.put_d.result
-    (λ h. let e = c.put_d.ensures.index.0 h in cc)
-    (λ h. let e = c.put_d.ensures.grade.0 h in cc)
-    (λ h. let e = c.put_d.ensures.twice.0 h in cc)
+    c.put_d.ensures.allowed (allowed_free _ free)
 
 pub returns-then-dim-eq1-clause-filled : goal.returns-then-dim-eq1-clause-filled
 returns-then-dim-eq1-clause-filled c =
@@ -38,10 +36,7 @@ unless_wanting-requires-2 c =
     let free = free-d0 t c.soundness_fact.ensures.entries c.requires.shape c.requires.before in
     let two : 1 < t'.dim = more t'.dim c.soundness_fact-2.ensures.entries.some (λ e. c.if-dim-eq1.false (c.dim.ensures ∙ e)) in
     let free' : putting_d t' 1 c.eighth.result ≡ Free = ap (putting_d t' 1) c.eighth.ensures ∙ free-d1 t t' c.soundness_fact-2.ensures.entries c.requires.shape c.requires.before free left two in
-    wanting c.put_d-2.result
-    (λ h. let e = c.put_d-2.ensures.index.0 h in cc)
-    (λ h. let e = c.put_d-2.ensures.grade.0 h in cc)
-    (λ h. let e = c.put_d-2.ensures.twice.0 h in cc)
+    c.put_d-2.ensures.allowed (allowed_free _ free')
 
 pub returns-clause-filled : goal.returns-clause-filled
 returns-clause-filled c =

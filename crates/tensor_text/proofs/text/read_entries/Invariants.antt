@@ -1,5 +1,4 @@
 use Rattle.std.proofs.Common.{◌≡◌, ◌<◌, ◌+◌, ◌^◌, length}
-use Rattle.airy_math.specs.declared.Shape.TheVariants.{All}
 use Rattle.tensor_text.specs.Lines.{lines}
 use Rattle.tensor_text.specs.Grammar.{counted, entries_from}
 use Rattle.tensor_text.proofs.text.read_entries.Given as goal
@@ -7,7 +6,6 @@ use Rattle.tensor_text.proofs.text.read_entries.Given as goal
 abbrev pub invariant-loop-number : goal.invariant-loop-number
 invariant-loop-number l = record {
   given : entries_from l.tensors (counted l.at (lines l.rest)) ≡ entries_from l.fn.tensors (counted l.first (lines l.text));
-  all : l.tensors.shape ≡ All;
   small : l.at + length l.rest < 2 ^ 32;
 }
 

@@ -2,4 +2,4 @@ use Rattle.tensor_text.proofs.BackLaw.{back}
 use Rattle.tensor_text.proofs.writing.write_tensors.Goals as goal
 
 pub returns-clause-back : goal.returns-clause-back
-returns-clause-back g c = back c.args.t.now c.soundness_fact.ensures.entries c.requires.shape c.requires.dim
+returns-clause-back g c = back c.args.t.now c.soundness_fact.ensures.entries c.requires

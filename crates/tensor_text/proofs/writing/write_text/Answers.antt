@@ -1,50 +1,17 @@
-use Rattle.std.proofs.Common.{◌++◌}
-use Rattle.std.specs.Prelude.{codes}
 use Rattle.std.proofs.lemmas.Result.{err_from_is_err_and}
-use Rattle.tensor_text.specs.Canonical.{dim_text}
-use Rattle.tensor_text.specs.Pieces.{places_piece, indices_piece}
-use Rattle.tensor_text.specs.declared.letters.Letter.TheVariants.{A, B, C}
+use Rattle.tensor_text.specs.Canonical.{first_text, entries_text, canonical_text}
 use Rattle.tensor_text.proofs.WriteLemmas.{cut_first, written_behind}
-use Rattle.tensor_text.proofs.CanonicalLaw.{canonical_pieces}
 use Rattle.tensor_text.proofs.writing.write_text.Goals as goal
 
-pub returns-in_err-write_all : goal.returns-in_err-write_all
-returns-in_err-write_all g c =
+pub returns-in_err-write_first : goal.returns-in_err-write_first
+unfolding canonical_text
+returns-in_err-write_first g c =
     let p = err_from_is_err_and c.from_residual.result c.from_residual.ensures.1 in
-    rw (p.1, p.2, canonical_pieces c.args.t.now c.soundness_fact.ensures.entries)
-    (cut_first (codes "airy 1\n") ((dim_text c.args.t.now.dim) ++ ((places_piece A c.args.t.now) ++ ((places_piece B c.args.t.now) ++ ((places_piece C c.args.t.now) ++ ((indices_piece c.args.t.now) ++ (codes "end\n")))))) (g.W.Sink.state c.args.out.now) (g.W.Sink.state c.write_all.new.out) _ c.in_err-write_all.ensures)
-
-pub returns-in_err-write_dim : goal.returns-in_err-write_dim
-returns-in_err-write_dim g c =
-    let p = err_from_is_err_and c.from_residual-in_err-write_dim.result c.from_residual-in_err-write_dim.ensures.1 in
-    rw (p.1, p.2, canonical_pieces c.args.t.now c.soundness_fact.ensures.entries)
-    (written_behind (codes "airy 1\n") ((dim_text c.args.t.now.dim) ++ ((places_piece A c.args.t.now) ++ ((places_piece B c.args.t.now) ++ ((places_piece C c.args.t.now) ++ ((indices_piece c.args.t.now) ++ (codes "end\n")))))) (g.W.Sink.state c.args.out.now) (g.W.Sink.state c.write_all.new.out) (g.W.Sink.state c.write_dim.new.out) _ c.in_ok-write_all.ensures.written c.in_ok-write_all.ensures.cause.kept (cut_first (dim_text c.args.t.now.dim) ((places_piece A c.args.t.now) ++ ((places_piece B c.args.t.now) ++ ((places_piece C c.args.t.now) ++ ((indices_piece c.args.t.now) ++ (codes "end\n"))))) (g.W.Sink.state c.write_all.new.out) (g.W.Sink.state c.write_dim.new.out) _ c.in_err-write_dim.ensures))
-
-pub returns-in_err-write_places : goal.returns-in_err-write_places
-returns-in_err-write_places g c =
-    let p = err_from_is_err_and c.from_residual-in_err-write_places.result c.from_residual-in_err-write_places.ensures.1 in
-    rw (p.1, p.2, canonical_pieces c.args.t.now c.soundness_fact.ensures.entries)
-    (written_behind (codes "airy 1\n") ((dim_text c.args.t.now.dim) ++ ((places_piece A c.args.t.now) ++ ((places_piece B c.args.t.now) ++ ((places_piece C c.args.t.now) ++ ((indices_piece c.args.t.now) ++ (codes "end\n")))))) (g.W.Sink.state c.args.out.now) (g.W.Sink.state c.write_all.new.out) (g.W.Sink.state c.write_places.new.out) _ c.in_ok-write_all.ensures.written c.in_ok-write_all.ensures.cause.kept (written_behind (dim_text c.args.t.now.dim) ((places_piece A c.args.t.now) ++ ((places_piece B c.args.t.now) ++ ((places_piece C c.args.t.now) ++ ((indices_piece c.args.t.now) ++ (codes "end\n"))))) (g.W.Sink.state c.write_all.new.out) (g.W.Sink.state c.write_dim.new.out) (g.W.Sink.state c.write_places.new.out) _ c.in_ok-write_dim.ensures.written c.in_ok-write_dim.ensures.cause.kept (cut_first (places_piece A c.args.t.now) ((places_piece B c.args.t.now) ++ ((places_piece C c.args.t.now) ++ ((indices_piece c.args.t.now) ++ (codes "end\n")))) (g.W.Sink.state c.write_dim.new.out) (g.W.Sink.state c.write_places.new.out) _ c.in_err-write_places.ensures)))
-
-pub returns-in_err-write_places-2 : goal.returns-in_err-write_places-2
-returns-in_err-write_places-2 g c =
-    let p = err_from_is_err_and c.from_residual-in_err-write_places-2.result c.from_residual-in_err-write_places-2.ensures.1 in
-    rw (p.1, p.2, canonical_pieces c.args.t.now c.soundness_fact.ensures.entries)
-    (written_behind (codes "airy 1\n") ((dim_text c.args.t.now.dim) ++ ((places_piece A c.args.t.now) ++ ((places_piece B c.args.t.now) ++ ((places_piece C c.args.t.now) ++ ((indices_piece c.args.t.now) ++ (codes "end\n")))))) (g.W.Sink.state c.args.out.now) (g.W.Sink.state c.write_all.new.out) (g.W.Sink.state c.write_places-2.new.out) _ c.in_ok-write_all.ensures.written c.in_ok-write_all.ensures.cause.kept (written_behind (dim_text c.args.t.now.dim) ((places_piece A c.args.t.now) ++ ((places_piece B c.args.t.now) ++ ((places_piece C c.args.t.now) ++ ((indices_piece c.args.t.now) ++ (codes "end\n"))))) (g.W.Sink.state c.write_all.new.out) (g.W.Sink.state c.write_dim.new.out) (g.W.Sink.state c.write_places-2.new.out) _ c.in_ok-write_dim.ensures.written c.in_ok-write_dim.ensures.cause.kept (written_behind (places_piece A c.args.t.now) ((places_piece B c.args.t.now) ++ ((places_piece C c.args.t.now) ++ ((indices_piece c.args.t.now) ++ (codes "end\n")))) (g.W.Sink.state c.write_dim.new.out) (g.W.Sink.state c.write_places.new.out) (g.W.Sink.state c.write_places-2.new.out) _ c.in_ok-write_places.ensures.written c.in_ok-write_places.ensures.cause.kept (cut_first (places_piece B c.args.t.now) ((places_piece C c.args.t.now) ++ ((indices_piece c.args.t.now) ++ (codes "end\n"))) (g.W.Sink.state c.write_places.new.out) (g.W.Sink.state c.write_places-2.new.out) _ c.in_err-write_places-2.ensures))))
-
-pub returns-in_err-write_places-3 : goal.returns-in_err-write_places-3
-returns-in_err-write_places-3 g c =
-    let p = err_from_is_err_and c.from_residual-in_err-write_places-3.result c.from_residual-in_err-write_places-3.ensures.1 in
-    rw (p.1, p.2, canonical_pieces c.args.t.now c.soundness_fact.ensures.entries)
-    (written_behind (codes "airy 1\n") ((dim_text c.args.t.now.dim) ++ ((places_piece A c.args.t.now) ++ ((places_piece B c.args.t.now) ++ ((places_piece C c.args.t.now) ++ ((indices_piece c.args.t.now) ++ (codes "end\n")))))) (g.W.Sink.state c.args.out.now) (g.W.Sink.state c.write_all.new.out) (g.W.Sink.state c.write_places-3.new.out) _ c.in_ok-write_all.ensures.written c.in_ok-write_all.ensures.cause.kept (written_behind (dim_text c.args.t.now.dim) ((places_piece A c.args.t.now) ++ ((places_piece B c.args.t.now) ++ ((places_piece C c.args.t.now) ++ ((indices_piece c.args.t.now) ++ (codes "end\n"))))) (g.W.Sink.state c.write_all.new.out) (g.W.Sink.state c.write_dim.new.out) (g.W.Sink.state c.write_places-3.new.out) _ c.in_ok-write_dim.ensures.written c.in_ok-write_dim.ensures.cause.kept (written_behind (places_piece A c.args.t.now) ((places_piece B c.args.t.now) ++ ((places_piece C c.args.t.now) ++ ((indices_piece c.args.t.now) ++ (codes "end\n")))) (g.W.Sink.state c.write_dim.new.out) (g.W.Sink.state c.write_places.new.out) (g.W.Sink.state c.write_places-3.new.out) _ c.in_ok-write_places.ensures.written c.in_ok-write_places.ensures.cause.kept (written_behind (places_piece B c.args.t.now) ((places_piece C c.args.t.now) ++ ((indices_piece c.args.t.now) ++ (codes "end\n"))) (g.W.Sink.state c.write_places.new.out) (g.W.Sink.state c.write_places-2.new.out) (g.W.Sink.state c.write_places-3.new.out) _ c.in_ok-write_places-2.ensures.written c.in_ok-write_places-2.ensures.cause.kept (cut_first (places_piece C c.args.t.now) ((indices_piece c.args.t.now) ++ (codes "end\n")) (g.W.Sink.state c.write_places-2.new.out) (g.W.Sink.state c.write_places-3.new.out) _ c.in_err-write_places-3.ensures)))))
-
-pub returns-in_err-write_indices : goal.returns-in_err-write_indices
-returns-in_err-write_indices g c =
-    let p = err_from_is_err_and c.from_residual-in_err-write_indices.result c.from_residual-in_err-write_indices.ensures.1 in
-    rw (p.1, p.2, canonical_pieces c.args.t.now c.soundness_fact.ensures.entries)
-    (written_behind (codes "airy 1\n") ((dim_text c.args.t.now.dim) ++ ((places_piece A c.args.t.now) ++ ((places_piece B c.args.t.now) ++ ((places_piece C c.args.t.now) ++ ((indices_piece c.args.t.now) ++ (codes "end\n")))))) (g.W.Sink.state c.args.out.now) (g.W.Sink.state c.write_all.new.out) (g.W.Sink.state c.write_indices.new.out) _ c.in_ok-write_all.ensures.written c.in_ok-write_all.ensures.cause.kept (written_behind (dim_text c.args.t.now.dim) ((places_piece A c.args.t.now) ++ ((places_piece B c.args.t.now) ++ ((places_piece C c.args.t.now) ++ ((indices_piece c.args.t.now) ++ (codes "end\n"))))) (g.W.Sink.state c.write_all.new.out) (g.W.Sink.state c.write_dim.new.out) (g.W.Sink.state c.write_indices.new.out) _ c.in_ok-write_dim.ensures.written c.in_ok-write_dim.ensures.cause.kept (written_behind (places_piece A c.args.t.now) ((places_piece B c.args.t.now) ++ ((places_piece C c.args.t.now) ++ ((indices_piece c.args.t.now) ++ (codes "end\n")))) (g.W.Sink.state c.write_dim.new.out) (g.W.Sink.state c.write_places.new.out) (g.W.Sink.state c.write_indices.new.out) _ c.in_ok-write_places.ensures.written c.in_ok-write_places.ensures.cause.kept (written_behind (places_piece B c.args.t.now) ((places_piece C c.args.t.now) ++ ((indices_piece c.args.t.now) ++ (codes "end\n"))) (g.W.Sink.state c.write_places.new.out) (g.W.Sink.state c.write_places-2.new.out) (g.W.Sink.state c.write_indices.new.out) _ c.in_ok-write_places-2.ensures.written c.in_ok-write_places-2.ensures.cause.kept (written_behind (places_piece C c.args.t.now) ((indices_piece c.args.t.now) ++ (codes "end\n")) (g.W.Sink.state c.write_places-2.new.out) (g.W.Sink.state c.write_places-3.new.out) (g.W.Sink.state c.write_indices.new.out) _ c.in_ok-write_places-3.ensures.written c.in_ok-write_places-3.ensures.cause.kept (cut_first (indices_piece c.args.t.now) (codes "end\n") (g.W.Sink.state c.write_places-3.new.out) (g.W.Sink.state c.write_indices.new.out) _ c.in_err-write_indices.ensures))))))
+    rw (p.1, p.2)
+    (cut_first (first_text c.args.t.now) (entries_text c.args.t.now) (g.W.Sink.state c.args.out.now) (g.W.Sink.state c.write_first.new.out) _ c.in_err-write_first.ensures)
 
 pub returns : goal.returns
+unfolding canonical_text
 returns g c =
-    rw (canonical_pieces c.args.t.now c.soundness_fact.ensures.entries)
-    (written_behind (codes "airy 1\n") ((dim_text c.args.t.now.dim) ++ ((places_piece A c.args.t.now) ++ ((places_piece B c.args.t.now) ++ ((places_piece C c.args.t.now) ++ ((indices_piece c.args.t.now) ++ (codes "end\n")))))) (g.W.Sink.state c.args.out.now) (g.W.Sink.state c.write_all.new.out) (g.W.Sink.state c.write_all-2.new.out) _ c.in_ok-write_all.ensures.written c.in_ok-write_all.ensures.cause.kept (written_behind (dim_text c.args.t.now.dim) ((places_piece A c.args.t.now) ++ ((places_piece B c.args.t.now) ++ ((places_piece C c.args.t.now) ++ ((indices_piece c.args.t.now) ++ (codes "end\n"))))) (g.W.Sink.state c.write_all.new.out) (g.W.Sink.state c.write_dim.new.out) (g.W.Sink.state c.write_all-2.new.out) _ c.in_ok-write_dim.ensures.written c.in_ok-write_dim.ensures.cause.kept (written_behind (places_piece A c.args.t.now) ((places_piece B c.args.t.now) ++ ((places_piece C c.args.t.now) ++ ((indices_piece c.args.t.now) ++ (codes "end\n")))) (g.W.Sink.state c.write_dim.new.out) (g.W.Sink.state c.write_places.new.out) (g.W.Sink.state c.write_all-2.new.out) _ c.in_ok-write_places.ensures.written c.in_ok-write_places.ensures.cause.kept (written_behind (places_piece B c.args.t.now) ((places_piece C c.args.t.now) ++ ((indices_piece c.args.t.now) ++ (codes "end\n"))) (g.W.Sink.state c.write_places.new.out) (g.W.Sink.state c.write_places-2.new.out) (g.W.Sink.state c.write_all-2.new.out) _ c.in_ok-write_places-2.ensures.written c.in_ok-write_places-2.ensures.cause.kept (written_behind (places_piece C c.args.t.now) ((indices_piece c.args.t.now) ++ (codes "end\n")) (g.W.Sink.state c.write_places-2.new.out) (g.W.Sink.state c.write_places-3.new.out) (g.W.Sink.state c.write_all-2.new.out) _ c.in_ok-write_places-3.ensures.written c.in_ok-write_places-3.ensures.cause.kept (written_behind (indices_piece c.args.t.now) (codes "end\n") (g.W.Sink.state c.write_places-3.new.out) (g.W.Sink.state c.write_indices.new.out) (g.W.Sink.state c.write_all-2.new.out) _ c.in_ok-write_indices.ensures.written c.in_ok-write_indices.ensures.cause.kept c.write_all-2.ensures))))))
+    written_behind (first_text c.args.t.now) (entries_text c.args.t.now) (g.W.Sink.state c.args.out.now) (g.W.Sink.state c.write_first.new.out) (g.W.Sink.state c.write_entries.new.out) _ c.in_ok-write_first.ensures.written c.in_ok-write_first.ensures.cause.kept
+    (c.write_entries.ensures)

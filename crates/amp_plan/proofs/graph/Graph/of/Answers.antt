@@ -1,4 +1,4 @@
-use Rattle.std.proofs.Common.{arith, sym, ap, subst, ◌<◌, [], length, get_or}
+use Rattle.std.proofs.Common.{arith, sym, subst, ◌<◌, [], length, get_or}
 use Rattle.amp_plan.specs.Plans.{keys_of}
 use Rattle.amp_plan.specs.Limits.{Tells}
 use Rattle.amp_plan.specs.Rows.{IsRow, AreTurned}
@@ -12,12 +12,9 @@ returns-in_default-clause-cause c = limit-memory c.args.ranking.now c.is_small.e
 
 pub turn-requires-clause-rows : goal.turn-requires-clause-rows
 turn-requires-clause-rows c = λ r h.
-    let small : r < length (keys_of c.args.ranking.now) = omega (arith, c.in-Ok.ensures.dependents.len, ap length c.as_slice.ensures.value) in
-    subst (λ n. IsRow n (get_or c.as_slice.result.now r [])) (sym c.len.ensures)
-    (subst (λ l. IsRow (length (keys_of c.args.ranking.now)) (get_or l r [])) (sym c.as_slice.ensures.value)
-    (dependents-rows c.args.ranking.now c.in-Ok.dependents.rows.items c.in-Ok.dependents.edges r c.in-Ok.ensures.dependents small))
+    let small : r < length (keys_of c.args.ranking.now) = omega (arith, c.in-Ok.ensures.dependents.len) in
+    subst (λ n. IsRow n (get_or c.in-Ok.dependents.rows r [])) (sym c.len.ensures) (dependents-rows c.args.ranking.now c.in-Ok.dependents.rows c.in-Ok.dependents.edges r c.in-Ok.ensures.dependents small)
 
 pub returns-clause-graph : goal.returns-clause-graph
 returns-clause-graph c =
-    graph_from c.args.ranking.now c.in-Ok.dependents.rows.items c.in-Ok-turn.needs.items c.in-Ok.dependents.edges c.in-Ok.ensures.dependents
-    (subst (λ n. AreTurned n c.in-Ok.dependents.rows.items c.in-Ok-turn.needs.items) c.len.ensures (subst (λ l. AreTurned c.len.result l c.in-Ok-turn.needs.items) c.as_slice.ensures.value c.in-Ok-turn.ensures))
+    graph_from c.args.ranking.now c.in-Ok.dependents.rows c.in-Ok-turn.needs c.in-Ok.dependents.edges c.in-Ok.ensures.dependents (subst (λ n. AreTurned n c.in-Ok.dependents.rows c.in-Ok-turn.needs) c.len.ensures c.in-Ok-turn.ensures)

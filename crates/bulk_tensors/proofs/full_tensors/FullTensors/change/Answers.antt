@@ -1,5 +1,5 @@
-use Rattle.std.proofs.Common.{◌≡◌, ◌+◌, true, false, refl, ap, ◌∙◌, rules}
-use Rattle.bulk_tensors.specs.Full.{Lists, listed}
+use Rattle.std.proofs.Common.{◌≡◌, ◌+◌, true, false, refl, rules}
+use Rattle.bulk_tensors.specs.Full.{listed}
 use Rattle.bulk_tensors.specs.Change.{gains, changed, is_obtained, amplitude, contracted}
 use Rattle.bulk_tensors.proofs.full_tensors.FullTensors.change.Goals as goal
 
@@ -21,4 +21,4 @@ returns-in-None-clause-over c =
 
 pub returns-in-Some-clause-dim : goal.returns-in-Some-clause-dim
 unfolding listed gains
-returns-in-Some-clause-dim c = ap (λ (t : Lists). t.dim) c.new.view_is ∙ c.in-Some.ensures.changed.dim
+returns-in-Some-clause-dim c = c.in-Some.ensures.changed.dim

@@ -2,10 +2,10 @@ use Rattle.std.proofs.Common.{◌≡◌, ℕ, ◌≤◌, ◌<◌, ◌+◌, ◌*�
 use Rattle.std.proofs.lemmas.Result.{on_ok_weaker}
 use Rattle.airy_math.specs.RationalLaws.{0ℚ}
 use Rattle.sparse_tensor.specs.Entries.{Entries, value_at}
-use Rattle.sparse_tensor.specs.Puts.{putting_b}
 use Rattle.bulk_tensors.specs.Full.{Lists, entry}
 use Rattle.bulk_tensors.specs.Filled.{AreFilled}
-use Rattle.bulk_tensors.proofs.PutLemmas.{allowed_wanting, allowed_b, at_ok}
+use Rattle.sparse_tensor.proofs.PutFacts.{at_ok}
+use Rattle.bulk_tensors.proofs.PutLemmas.{room_b}
 use Rattle.bulk_tensors.proofs.FilledLemmas.{filled_zero, filled_b}
 use Rattle.bulk_tensors.proofs.full_tensors.FullTensors.put_b.Goals as goal
 
@@ -19,8 +19,7 @@ unless_wanting-requires c =
     let zero : value_at t.b i j k ≡ 0ℚ = filled_zero from.dim i j k (entry from.b) t.b c.requires.before.of_b c.requires.first c.requires.second c.requires.third in
     let dim = c.requires.before.dim in
     let below = λ (n : ℕ) (h : n < from.dim). subst (λ d. n < d) (sym dim) h in
-    let allowed = allowed_b t i j k c.at-value.result c.soundness_fact.ensures.entries (below i c.requires.first) (below j c.requires.second) (below k c.requires.third) c.requires.before.shape zero in
-    allowed_wanting (putting_b t i j k c.at-value.result) c.put_b.result allowed c.put_b.ensures.index.0 c.put_b.ensures.grade.0 c.put_b.ensures.twice.0
+    c.put_b.ensures.allowed (room_b t i j k c.at-value.result c.soundness_fact.ensures.entries (below i c.requires.first) (below j c.requires.second) (below k c.requires.third) c.requires.before.shape zero)
 
 pub returns : goal.returns
 returns c =

@@ -3,10 +3,10 @@ use Rattle.std.specs.Prelude.{min, max}
 use Rattle.std.proofs.lemmas.Result.{on_ok_weaker}
 use Rattle.airy_math.specs.RationalLaws.{0ℚ}
 use Rattle.sparse_tensor.specs.Entries.{Entries, value_at}
-use Rattle.sparse_tensor.specs.Puts.{putting_c}
 use Rattle.bulk_tensors.specs.Full.{Lists, entry}
 use Rattle.bulk_tensors.specs.Filled.{AreFilled, ordered}
-use Rattle.bulk_tensors.proofs.PutLemmas.{allowed_wanting, allowed_c, at_ok}
+use Rattle.sparse_tensor.proofs.PutFacts.{at_ok}
+use Rattle.bulk_tensors.proofs.PutLemmas.{room_c}
 use Rattle.bulk_tensors.proofs.FilledLemmas.{filled_zero, filled_c}
 use Rattle.bulk_tensors.proofs.full_tensors.FullTensors.put_c.Goals as goal
 
@@ -22,8 +22,7 @@ unless_wanting-requires c =
     let zero : value_at t.c i (min j k) (max j k) ≡ 0ℚ = ap₂ (value_at t.c i) least most ∙ filled_zero from.dim i j k (ordered (entry from.c)) t.c c.requires.before.of_c c.requires.first c.requires.second c.requires.third in
     let dim = c.requires.before.dim in
     let below = λ (n : ℕ) (h : n < from.dim). subst (λ d. n < d) (sym dim) h in
-    let allowed = allowed_c t i j k c.at-value.result c.soundness_fact.ensures.entries (below i c.requires.first) (below j c.requires.second) (below k c.requires.third) c.requires.before.shape zero in
-    allowed_wanting (putting_c t i j k c.at-value.result) c.put_c.result allowed c.put_c.ensures.index.0 c.put_c.ensures.grade.0 c.put_c.ensures.twice.0
+    c.put_c.ensures.allowed (room_c t i j k c.at-value.result c.soundness_fact.ensures.entries (below i c.requires.first) (below j c.requires.second) (below k c.requires.third) c.requires.before.shape zero)
 
 pub returns : goal.returns
 returns c =

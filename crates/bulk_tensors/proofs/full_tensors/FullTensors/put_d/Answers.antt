@@ -3,10 +3,10 @@ use Rattle.std.proofs.lemmas.List.{get_or_default}
 use Rattle.std.proofs.lemmas.Result.{on_ok_weaker}
 use Rattle.airy_math.specs.RationalLaws.{0ℚ}
 use Rattle.sparse_tensor.specs.Entries.{Entries}
-use Rattle.sparse_tensor.specs.Puts.{putting_d}
 use Rattle.bulk_tensors.specs.Full.{Lists}
 use Rattle.bulk_tensors.specs.Filled.{AreFilled}
-use Rattle.bulk_tensors.proofs.PutLemmas.{allowed_wanting, allowed_d, at_ok}
+use Rattle.sparse_tensor.proofs.PutFacts.{at_ok}
+use Rattle.bulk_tensors.proofs.PutLemmas.{room_d}
 use Rattle.bulk_tensors.proofs.FilledLemmas.{d_zero, filled_d}
 use Rattle.bulk_tensors.proofs.full_tensors.FullTensors.put_d.Goals as goal
 
@@ -17,8 +17,7 @@ unless_wanting-requires c =
     let i = c.args.i in
     let v = get_or c.self.inside.d c.from.result c.index-self-from.result in
     let zero = d_zero 512 512 512 i from t c.requires.below c.requires.before in
-    let allowed = allowed_d t i v c.soundness_fact.ensures.entries (subst (λ d. i < d) (sym c.requires.before.dim) c.requires.below) c.requires.before.shape zero in
-    allowed_wanting (putting_d t i v) c.put_d.result allowed c.put_d.ensures.index.0 c.put_d.ensures.grade.0 c.put_d.ensures.twice.0
+    c.put_d.ensures.allowed (room_d t i v c.soundness_fact.ensures.entries (subst (λ d. i < d) (sym c.requires.before.dim) c.requires.below) c.requires.before.shape zero)
 
 pub returns : goal.returns
 returns c =

@@ -21,7 +21,7 @@ returns-in_err-admitted c =
     let h : IsAnswer c.from_residual.result (putting_b c.args.self.now c.args.i c.args.j c.args.k c.args.v) =
     subst (λ (t : Entries). IsAnswer c.from_residual.result (putting_b t c.args.i c.args.j c.args.k c.args.v)) c.self.view_is
     (refused (are_inside s.dim c.args.i c.args.j c.args.k) (is_zero c.args.v) (keeps_b s.shape c.args.i c.args.j c.args.k) (is_taken s.b.entries c.args.i c.args.j c.args.k) _ _ checks same) in
-    record { index = h.index; grade = h.grade; twice = h.twice; nothing = h.nothing; put = rw same tt; same = rw same refl }
+    record { index = h.index; grade = h.grade; twice = h.twice; nothing = h.nothing; allowed = h.allowed; put = rw same tt; same = rw same refl }
 
 pub put-requires : goal.put-requires
 put-requires c =
@@ -58,7 +58,7 @@ returns-then-branch c =
     subst (λ (t : Entries). Leaves c.stored.result t (whole c.put.new.self) (with_b t c.args.i c.args.j c.args.k c.args.v)) c.self.view_is
     (subst (λ R. Leaves R (whole s.b) (whole c.put.new.self) (with_b (whole s.b) c.args.i c.args.j c.args.k c.args.v)) (sym c.stored.ensures)
     (leaves whole s.b more c.put.new.self (with_b (whole s.b) c.args.i c.args.j c.args.k c.args.v) c.put.result (with_b-some (whole s.b) c.args.i c.args.j c.args.k c.args.v ok.zero_false) c.put.ensures.put c.put.ensures.same)) in
-    record { index = h.index; grade = h.grade; twice = h.twice; nothing = h.nothing; put = l.put; same = l.same }
+    record { index = h.index; grade = h.grade; twice = h.twice; nothing = h.nothing; allowed = h.allowed; put = l.put; same = l.same }
 
 pub returns : goal.returns
 unfolding putting_b
@@ -70,4 +70,4 @@ returns c =
     subst (λ (t : Entries). IsAnswer (Ok tt) (putting_b t c.args.i c.args.j c.args.k c.args.v)) c.self.view_is
     (skipped (are_inside s.dim c.args.i c.args.j c.args.k) (is_zero c.args.v) (keeps_b s.shape c.args.i c.args.j c.args.k) (is_taken s.b.entries c.args.i c.args.j c.args.k) checks) in
     let zero = nothing_stored (are_inside s.dim c.args.i c.args.j c.args.k) (is_zero c.args.v) (keeps_b s.shape c.args.i c.args.j c.args.k) checks in
-    record { index = h.index; grade = h.grade; twice = h.twice; nothing = h.nothing; put = with_b-zero c.args.self.now c.args.i c.args.j c.args.k c.args.v zero; same = tt }
+    record { index = h.index; grade = h.grade; twice = h.twice; nothing = h.nothing; allowed = h.allowed; put = with_b-zero c.args.self.now c.args.i c.args.j c.args.k c.args.v zero; same = tt }

@@ -21,7 +21,7 @@ returns-in_err-admitted c =
     let h : IsAnswer c.from_residual.result (putting_c c.args.self.now c.args.i c.args.j c.args.k c.args.v) =
     subst (λ (t : Entries). IsAnswer c.from_residual.result (putting_c t c.args.i c.args.j c.args.k c.args.v)) c.self.view_is
     (refused (are_inside s.dim c.args.i c.args.j c.args.k) (is_zero c.args.v) (keeps_c s.shape c.args.i c.args.j c.args.k) (is_taken s.c.entries c.args.i (min c.args.j c.args.k) (max c.args.j c.args.k)) _ _ checks same) in
-    record { index = h.index; grade = h.grade; twice = h.twice; nothing = h.nothing; put = rw same tt; same = rw same refl }
+    record { index = h.index; grade = h.grade; twice = h.twice; nothing = h.nothing; allowed = h.allowed; put = rw same tt; same = rw same refl }
 
 pub put-requires : goal.put-requires
 put-requires c =
@@ -58,7 +58,7 @@ returns-then-branch c =
     subst (λ (t : Entries). Leaves c.stored.result t (whole c.put.new.self) (with_c t c.args.i c.args.j c.args.k c.args.v)) c.self.view_is
     (subst (λ R. Leaves R (whole s.c) (whole c.put.new.self) (with_c (whole s.c) c.args.i c.args.j c.args.k c.args.v)) (sym c.stored.ensures)
     (leaves whole s.c more c.put.new.self (with_c (whole s.c) c.args.i c.args.j c.args.k c.args.v) c.put.result (with_c-some (whole s.c) c.args.i c.args.j c.args.k c.args.v ok.zero_false) (subst (λ (p : Places). IfOk c.put.result (λ free. c.put.new.self ≡ (if free then p else s.c))) (ap₂ (λ m n. record s.c { entries = with_entry (record { i = c.args.i; j = m; k = n; v = c.args.v }) s.c.entries }) c.min.ensures c.max.ensures) c.put.ensures.put) c.put.ensures.same)) in
-    record { index = h.index; grade = h.grade; twice = h.twice; nothing = h.nothing; put = l.put; same = l.same }
+    record { index = h.index; grade = h.grade; twice = h.twice; nothing = h.nothing; allowed = h.allowed; put = l.put; same = l.same }
 
 pub returns : goal.returns
 unfolding putting_c
@@ -70,4 +70,4 @@ returns c =
     subst (λ (t : Entries). IsAnswer (Ok tt) (putting_c t c.args.i c.args.j c.args.k c.args.v)) c.self.view_is
     (skipped (are_inside s.dim c.args.i c.args.j c.args.k) (is_zero c.args.v) (keeps_c s.shape c.args.i c.args.j c.args.k) (is_taken s.c.entries c.args.i (min c.args.j c.args.k) (max c.args.j c.args.k)) checks) in
     let zero = nothing_stored (are_inside s.dim c.args.i c.args.j c.args.k) (is_zero c.args.v) (keeps_c s.shape c.args.i c.args.j c.args.k) checks in
-    record { index = h.index; grade = h.grade; twice = h.twice; nothing = h.nothing; put = with_c-zero c.args.self.now c.args.i c.args.j c.args.k c.args.v zero; same = tt }
+    record { index = h.index; grade = h.grade; twice = h.twice; nothing = h.nothing; allowed = h.allowed; put = with_c-zero c.args.self.now c.args.i c.args.j c.args.k c.args.v zero; same = tt }

@@ -21,7 +21,7 @@ returns-in_err-admitted c =
     let h : IsAnswer c.from_residual.result (putting_d c.args.self.now c.args.i c.args.v) =
     subst (λ (t : Entries). IsAnswer c.from_residual.result (putting_d t c.args.i c.args.v)) c.self.view_is
     (refused (ltb c.args.i s.dim) (is_zero c.args.v) (keeps_d s.shape c.args.i) (is_given s.d c.args.i) _ _ checks same) in
-    record { index = h.index; grade = h.grade; twice = h.twice; nothing = h.nothing; put = rw same tt; same = rw same refl }
+    record { index = h.index; grade = h.grade; twice = h.twice; nothing = h.nothing; allowed = h.allowed; put = rw same tt; same = rw same refl }
 
 pub invariant_of-self : goal.invariant_of-self
 invariant_of-self c =
@@ -49,7 +49,7 @@ returns-then-branch c =
     subst (λ (t : Entries). Leaves c.stored.result t (whole c.put.new.self) (with_d t c.args.i c.args.v)) c.self.view_is
     (subst (λ R. Leaves R (whole s.d) (whole c.put.new.self) (with_d (whole s.d) c.args.i c.args.v)) (sym c.stored.ensures)
     (leaves whole s.d more c.put.new.self (with_d (whole s.d) c.args.i c.args.v) c.put.result (with_d-some (whole s.d) c.args.i c.args.v ok.zero_false) c.put.ensures.put c.put.ensures.same)) in
-    record { index = h.index; grade = h.grade; twice = h.twice; nothing = h.nothing; put = l.put; same = l.same }
+    record { index = h.index; grade = h.grade; twice = h.twice; nothing = h.nothing; allowed = h.allowed; put = l.put; same = l.same }
 
 pub returns : goal.returns
 unfolding putting_d
@@ -61,4 +61,4 @@ returns c =
     subst (λ (t : Entries). IsAnswer (Ok tt) (putting_d t c.args.i c.args.v)) c.self.view_is
     (skipped (ltb c.args.i s.dim) (is_zero c.args.v) (keeps_d s.shape c.args.i) (is_given s.d c.args.i) checks) in
     let zero = nothing_stored (ltb c.args.i s.dim) (is_zero c.args.v) (keeps_d s.shape c.args.i) checks in
-    record { index = h.index; grade = h.grade; twice = h.twice; nothing = h.nothing; put = with_d-zero c.args.self.now c.args.i c.args.v zero; same = tt }
+    record { index = h.index; grade = h.grade; twice = h.twice; nothing = h.nothing; allowed = h.allowed; put = with_d-zero c.args.self.now c.args.i c.args.v zero; same = tt }

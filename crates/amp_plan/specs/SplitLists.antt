@@ -1,0 +1,51 @@
+-- The splits of a list with what a walk needs of each, in their order.
+use Prim.Native.Nat.{ℕ, suc, ◌+◌, ◌*◌, ◌-◌, ◌%◌, ◌≤◌, ◌<◌, ◌^◌}
+use mathlib.Core.Path.{◌≡◌}
+use mathlib.Core.List.{List, [], ◌∷◌, map}
+use lib.ListN.{length}
+use lib.IntN.{ℤ, pos, ◌+ℤ◌}
+use Rattle.std.specs.List.{AllByRecursion}
+use Rattle.airy_math.specs.Cuts.{natural}
+use Rattle.airy_math.specs.Splits.{Split}
+use Rattle.airy_math.specs.Sums.{count_from, each}
+use Rattle.airy_index.specs.Choices.{all_splits, whole_length}
+use Rattle.key_index.specs.Codes.{code_of_list}
+use Rattle.amp_plan.specs.Measures.{excess}
+use Rattle.amp_plan.specs.Shares.{behind, more_of}
+use Rattle.amp_plan.specs.declared.share.Chosen.{Chosen}
+
+-- the number of the chain of the parts with an excess: those of one excess have one chain
+unfoldable pub chain : ℤ → ℕ
+chain e = natural (e +ℤ pos (2 ^ 29)) % 64
+
+-- the measure of a split's part and its number of ways
+unfoldable pub numbers_of : ℤ → Split → Chosen
+numbers_of c s = record { part = record { places = length s.part; excess = excess c s.part; code = code_of_list s.part }; ways = s.ways; gain = 0; loss = 0 }
+
+-- the numbers of all splits, each with its chain
+unfoldable pub all_listed : ℤ → List Split → List (ℕ × Chosen)
+all_listed c ss = map (λ s. (chain (excess c s.part), numbers_of c s)) ss
+
+-- the split with t copies of the first run's index, where a run is left
+unfoldable pub taken_so : Split → List (ℕ × ℕ) → ℕ → Split
+taken_so s [] t = s
+taken_so s (r ∷ rs) t = more_of s r t
+
+-- all splits that go on from s with at least t copies of the first run's index
+unfoldable pub going_on : Split → List (ℕ × ℕ) → ℕ → List Split
+going_on s [] t = s ∷ []
+going_on s (r ∷ rs) t = each (count_from t (suc r.1 - t)) λ u. map (behind (more_of s r u)) (all_splits rs)
+
+-- how many copies the first run has
+unfoldable pub copies : List (ℕ × ℕ) → ℕ
+copies [] = 0
+copies (r ∷ rs) = r.1
+
+-- The numbers are those of a split of at most 25 bytes, that has t copies of the first run's index.
+pub record CanBeListed (c : ℤ) (left : List (ℕ × ℕ)) (t : ℕ) (x : Chosen) : Type 0 where
+  pub split : Split
+  pub is : x ≡ numbers_of c (taken_so split left t)
+  pub within : t ≤ copies left
+  pub bytes : AllByRecursion (λ b. b < 256) split.part
+  pub few : length split.part + whole_length left ≤ 25
+  pub small : split.ways * 2 ^ whole_length left ≤ 2 ^ 25
