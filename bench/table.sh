@@ -15,15 +15,19 @@ tar -C "$here/.." --exclude=out -cf - crates crates.txt | tar -C "$work" -xf -
 mkdir -p "$work/crates/table_bench/src" "$work/crates/table_bench/specs" "$work/crates/table_bench/proofs"
 touch "$work/crates/table_bench/specs/Lib.antt" "$work/crates/table_bench/proofs/Lib.antt"
 cp "$here/table_main.rt.txt" "$work/crates/table_bench/src/main.rt"
-below=$(awk -F: '/^(constraint_check|named_families):/ { print $1, $2 }' "$work/crates.txt" | tr -s ' ' '\n' | sort -u | tr '\n' ' ')
+below=$(awk '/^(constraint_check|named_families)[ :]/ { name = $1; sub(/:$/, "", name); sub(/^[^:]*:/, ""); print name, $0 }' "$work/crates.txt" | tr -s ' ' '\n' | sort -u | tr '\n' ' ')
 echo "table_bench: $below" >> "$work/crates.txt"
 
 (cd "$work/crates/table_bench" && rt run > "$work/first.txt" 2> "$work/build.txt") || { cat "$work/build.txt" >&2; exit 1; }
 rustc -O "$here/plain/table.rs" -o "$work/plain"
 
+# The proved program writes two lines of numbers, the plain one a line for each.
+named='NR == 1 { print "cells", $1; print "needs", $2; print "needs-sum", $3; print "time-plan", $4 }
+       NR == 2 { print "values-sum", $1; print "solution", $2 == 0; print "time-fill", $3; print "time-check", $4 }'
+
 for _ in $(seq "$turns"); do
     for job in "$@"; do
-        "$work/crates/table_bench/out/table_bench" "${job%-*}" "${job#*-}" | sed "s/^/$job proved /"
+        "$work/crates/table_bench/out/table_bench" "${job%-*}" "${job#*-}" | awk "$named" | sed "s/^/$job proved /"
         "$work/plain" "${job%-*}" "${job#*-}" | sed "s/^/$job plain /"
         "$work/plain" once "${job%-*}" "${job#*-}" | sed "s/^/$job once /"
     done
@@ -37,7 +41,9 @@ awk '
         if (!(key in best) || $0 + 0 < best[key]) best[key] = $0 + 0
         next
     }
-    name ~ /^count-/ { next }
+    name == "end" { name = "solution"; $0 = 1 }
+    name ~ /^end-over/ { name = "solution"; $0 = 0 }
+    name !~ /^(cells|needs|needs-sum|values-sum|solution)$/ { next }
     { told[side " " job " " name] = $0; lines[job " " name] = 1 }
     function time(side, job, part) {
         if (part == "fill+check") return best[side " " job " fill"] + best[side " " job " check"]

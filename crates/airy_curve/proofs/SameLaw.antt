@@ -11,7 +11,7 @@ use Rattle.airy_math.specs.Sums.{when, factorial}
 use Rattle.airy_math.specs.Cuts as cuts
 use Rattle.airy_math.specs.Families.{sine, with_sines, c_list, first_of, wp_number, wp_shape, wp_cut}
 use Rattle.airy_math.proofs.SumLemmas.{when-scale, 1ℚ_idr}
-use Rattle.airy_curve.specs.Curve.{curve_shape, entry, paired, numbers_down, first_or_zero, number_of, power, wp_u, wp, SameWp}
+use Rattle.airy_curve.specs.Curve.{curve_shape, entry, paired, numbers_down, first_or_zero, number_of, power, wp_u, wp, SameWp, curve, CurveOfWp}
 
 -- ---- the numbers
 
@@ -68,4 +68,27 @@ same_wp_law dim most = record {
       ∙ sym (when-scale (leb (i + j) (k + 1) && leb (k + 1 - (i + j)) most) (whole (2 * j + 1)) (wp_number (k + 1 - (i + j))));
   C = λ i j k p q r. same_entry most (j + k + 2) i;
   D = λ i p. ap (λ t. when (eqb i 0) t +ℚ when (eqb i 1) (pos 1 /ℚ 8)) (1ℚ_idl (pos 1 /ℚ 12));
+}
+
+-- ---- a curve
+
+bracket : (most m n : ℕ) → entry (number_of wp_u) most m n ≡ when (leb n m && leb (m - n) most) (wp_number (m - n))
+unfolding entry
+bracket most m n = ap (when (leb n m && leb (m - n) most)) (same_number (m - n))
+
+twelfth : number_of wp_u 1 *ℚ (pos 1 /ℚ 8) ≡ pos 1 /ℚ 12
+unfolding Rattle.airy_curve.specs.CurveExamples.curve_computes
+twelfth = refl
+
+pub curve_of_wp_law : CurveOfWp
+unfolding curve wp_cut wp_shape curve_shape
+curve_of_wp_law dim most = record {
+  dim = refl;
+  shape = refl;
+  A = λ i j k p q r. refl;
+  B = λ i j k p q r.
+      ap (λ t. whole (2 * j + 1) *ℚ t) (bracket most (k + 1) (i + j))
+      ∙ sym (when-scale (leb (i + j) (k + 1) && leb (k + 1 - (i + j)) most) (whole (2 * j + 1)) (wp_number (k + 1 - (i + j))));
+  C = λ i j k p q r. bracket most (j + k + 2) i;
+  D = λ i p. ap (λ t. when (eqb i 0) t +ℚ when (eqb i 1) (pos 1 /ℚ 8)) twelfth;
 }

@@ -7,7 +7,7 @@ use Rattle.airy_math.specs.Relations.{Close}
 use Rattle.airy_math.specs.Ranks.{PlanLaw}
 use Rattle.airy_math.specs.BelowDim.{BelowDimLaw}
 use Rattle.airy_math.specs.Tensors.{Tensors, SameEntries}
-use Rattle.airy_math.specs.Jobs.{Bulk, planned_tensors}
+use Rattle.airy_math.specs.Jobs.{Bulk, IsSound, planned_tensors}
 use Rattle.airy_relations.specs.declared.verdict.Verdict.{Verdict}
 use Rattle.airy_relations.specs.declared.verdict.Verdict.TheVariants.{Closed, Differs, Over}
 use Rattle.airy_relations.specs.Verdicts.{verdict}
@@ -18,20 +18,23 @@ use Rattle.bulk_tensors.specs.Change.{changed, gains}
 use Rattle.bulk_tensors.specs.declared.full_tensors.BulkErr.{BulkErr}
 use Rattle.bulk_tensors.specs.declared.full_tensors.BulkErr.TheVariants as error
 use Rattle.std.proofs.Math.Nat.{le_refl}
-use Rattle.airyrun.specs.Headline.{HasTwoOrders}
+use Rattle.airy_exists.specs.Existence.{NoOrdersLaw}
 use Rattle.series_law.specs.SameTables.{SameTablesLaw}
 use Rattle.sparse_tensor.specs.Entries.{Entries, looked_up}
 use Rattle.airy_io.specs.Causes.{Taking}
-use Rattle.airyrun.specs.Report.{Report, Ends, EndsOrWants, bound_refused, out_of_memory, refusal}
-use Rattle.airyrun.specs.Ends.{EndsBy}
-use Rattle.airyrun.specs.Relations.{IsVerdict, closed, relations_report}
-use Rattle.airyrun.specs.Tables.{ArePlanned, has_letter, is_bound, making_over, stored_report, table_report}
-use Rattle.airyrun.specs.Forms.{count_text, formed_stored, last_of, summary_text, summed}
-use Rattle.airyrun.specs.declared.tables.Form.TheVariants.{Summary}
+use Rattle.run_reports.specs.Report.{Report, Ends, EndsOrWants, bound_refused, out_of_memory, refusal}
+use Rattle.run_reports.specs.Ends.{EndsBy}
+use Rattle.run_reports.specs.Relations.{IsVerdict, closed, relations_report}
+use Rattle.run_reports.specs.Tables.{stored_report}
+use Rattle.airyrun.specs.Tables.{ArePlanned, is_bound, making_over, table_report}
+use Rattle.run_reports.specs.Structures.{has_letter}
+use Rattle.run_reports.specs.Forms.{count_text, formed_stored, last_of, summary_text, summed}
+use Rattle.run_reports.specs.declared.tables.Form.TheVariants.{Summary}
 use Rattle.airyrun.specs.Bulks.{LeadsToBulk, bulk_error, bulk_report, changes_report, closed_summary}
-use Rattle.airyrun.proofs.HeadlineLemmas.{JobLaws, whole_of, unsolvable_of}
-use Rattle.airyrun.proofs.LimitLemmas.{counts_same}
-use Rattle.airyrun.proofs.ReportLemmas.{stood_report}
+use Rattle.run_reports.proofs.HeadlineLemmas.{JobLaws}
+use Rattle.airyrun.proofs.HeadlineLemmas.{whole_of}
+use Rattle.run_reports.proofs.LimitLemmas.{counts_same}
+use Rattle.airyrun.proofs.ReportLemmas.{stood_report, table_never}
 use Rattle.airyrun.proofs.ValuedLemmas.{same_full}
 
 -- the laws that a large structure rests on
@@ -40,6 +43,7 @@ pub record BulkLaws : Type 0 where
   pub below : BelowDimLaw
   pub tables : SameTablesLaw
   pub verdicts : SameVerdictLaw
+  pub orders : NoOrdersLaw
 
 -- the summary of stored tensors is that of those that they stand for
 same_summary : (t : Entries) (T : Tensors) (letter : Bool) (X : ℕ) → PlanLaw → BelowDimLaw → SameTablesLaw → SameEntries (looked_up t) T
@@ -96,7 +100,7 @@ module _ (laws : BulkLaws) (seed dim X : ℕ) (t : Entries) (stands : StandsForB
 pub other_bulk_leads : (seed dim X : ℕ) (report : Report) → (report ≡ bulk_report seed dim X) ⊎ (IsTrue (is_bound X) × (report ≡ out_of_memory)) → report.status ≢ 0 → report.status ≢ 7
     → LeadsToBulk seed dim X report
 other_bulk_leads seed dim X report said not_zero seven =
-    record { said = said; headline = λ e. absurd (not_zero e); accepted = λ e. absurd (not_zero e); unsolvable = λ e. absurd (seven e) }
+    record { said = said; headline = λ e. absurd (not_zero e); accepted = λ e. absurd (not_zero e); never = seven }
 
 -- the bound is refused
 pub beyond_bulk : (seed dim X : ℕ) (before now : Taking) (result : ℕ) → is_bound X ≡ false → Ends (bound_refused X) before now result → EndsBy (LeadsToBulk seed dim X) before now result
@@ -126,15 +130,11 @@ behind_relations Closed next e = (refl, e)
 behind_relations (Differs rel place left right) next e = absurd (omega (arith, e))
 behind_relations (Over rel place) next e = absurd (omega (arith, e))
 
-passed_relations : (v : Verdict) (next : Report) → (relations_report v next).status ≡ 7 → relations_report v next ≡ next
+seven_behind : (v : Verdict) (next : Report) → (relations_report v next).status ≡ 7 → (v ≡ Closed) × (next.status ≡ 7)
 unfolding relations_report
-passed_relations Closed next e = refl
-passed_relations (Differs rel place left right) next e = absurd (omega (arith, e))
-passed_relations (Over rel place) next e = absurd (omega (arith, e))
-
-other_bytes : (letter : Bool) (T : Tensors) (X : ℕ) (report : Report) → report.status ≡ 7 → (summed letter T X report).bytes ≡ report.bytes
-unfolding summed
-other_bytes letter T X report e = rw e refl
+seven_behind Closed next e = (refl, e)
+seven_behind (Differs rel place left right) next e = absurd (omega (arith, e))
+seven_behind (Over rel place) next e = absurd (omega (arith, e))
 
 module _ (laws : BulkLaws) (seed dim X : ℕ) (t : Entries) (stands : StandsForBulk seed dim t) (bounded : is_bound X ≡ true) (tells : IsVerdict (looked_up t) t.dim) where
   report_is : bulk_report seed dim X ≡ relations_report (verdict (bulk seed dim) dim) (summed false (bulk seed dim) X (table_report (Bulk (bulk seed dim)) X))
@@ -148,7 +148,7 @@ module _ (laws : BulkLaws) (seed dim X : ℕ) (t : Entries) (stands : StandsForB
       (((laws.below (looked_up t) (bulk seed dim) stands.entries).relations t.dim (le_refl t.dim)).0 h)
 
   said_whole : LeadsToBulk seed dim X (bulk_report seed dim X)
-  unfolding summed
+  unfolding summed planned_tensors IsSound
   said_whole = record {
     said = inl refl;
     headline = λ e.
@@ -156,13 +156,11 @@ module _ (laws : BulkLaws) (seed dim X : ℕ) (t : Entries) (stands : StandsForB
     accepted = λ e.
         let closed = (behind_relations (verdict (bulk seed dim) dim) _ (sym (ap (λ (r : Report). r.status) report_is) ∙ e)).0 in
         close_is (tells.holds (found_is laws seed dim X t stands bounded ∙ closed));
-    unsolvable = λ e.
-        let seven = sym (ap (λ (r : Report). r.status) report_is) ∙ e in
-        let same = report_is ∙ passed_relations (verdict (bulk seed dim) dim) _ seven in
-        let orders = ap (λ (r : Report). r.status) (sym same) ∙ e in
-        subst (HasTwoOrders (Bulk (bulk seed dim)) X)
-        (sym (ap (λ (r : Report). r.bytes) same ∙ other_bytes false (bulk seed dim) X (table_report (Bulk (bulk seed dim)) X) orders))
-        (unsolvable_of laws.jobs (Bulk (bulk seed dim)) X stands.sound orders);
+    never = λ e.
+        let behind = seven_behind (verdict (bulk seed dim) dim) _ (sym (ap (λ (r : Report). r.status) report_is) ∙ e) in
+        let close = close_is (tells.holds (found_is laws seed dim X t stands bounded ∙ behind.0)) in
+        let orders = laws.orders (bulk seed dim) stands.sound.0 stands.sound.1 (subst (Close (bulk seed dim)) (sym (bulk_dim seed dim)) close) X in
+        table_never (Bulk (bulk seed dim)) X orders behind.1;
   }
 
   pub bulk_ends : (before now : Taking) (result : ℕ) → EndsOrWants (closed_summary t X) before now result → EndsBy (LeadsToBulk seed dim X) before now result

@@ -43,11 +43,12 @@ use Rattle.correlators.specs.Laws.{NumberOfSolutions}
 use Rattle.frac128.specs.Fraction.{fraction_text}
 use Rattle.airy_io.specs.Causes.{Taking}
 use Rattle.airy_index.specs.Text.{key_text}
-use Rattle.airyrun.specs.Report.{Report, Ends, bound_refused, refusal}
-use Rattle.airyrun.specs.Ends.{EndsBy}
+use Rattle.run_reports.specs.Report.{Report, Ends, bound_refused, refusal}
+use Rattle.run_reports.specs.Ends.{EndsBy}
 use Rattle.airyrun.specs.Numbers.{IsNumber, IsQuotient, LeadsToNumber, MeetsEquations, euler_of, number_report, quotient, quotient_report, valued_report}
 use Rattle.airyrun.proofs.RunLemmas.{family_sound}
-use Rattle.airyrun.specs.Tables.{structure_of, has_letter, is_bound}
+use Rattle.airyrun.specs.Tables.{structure_of, is_bound}
+use Rattle.run_reports.specs.Structures.{has_letter}
 use Rattle.airyrun.specs.Valued.{IsValued, Refuses}
 use Rattle.airyrun.proofs.ValuedLemmas.{cell_there}
 

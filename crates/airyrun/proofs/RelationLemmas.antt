@@ -14,7 +14,6 @@ use Rattle.airy_relations.specs.declared.verdict.Rel.{Rel}
 use Rattle.airy_relations.specs.declared.verdict.Verdict.{Verdict}
 use Rattle.airy_relations.specs.declared.verdict.Verdict.TheVariants.{Closed, Differs, Over}
 use Rattle.airy_relations.specs.NoDifference.{FindsNoDifference}
-use Rattle.airy_relations.specs.Numbers.{Fails, TellsFailure}
 use Rattle.airy_relations.specs.SameVerdict.{SameVerdictLaw}
 use Rattle.airy_relations.specs.Verdicts.{verdict}
 use Rattle.named_families.specs.Closing.{MeetsRelations, WkCloses, BgwCloses, WpCloses}
@@ -22,19 +21,14 @@ use Rattle.named_families.specs.Families.{Names}
 use Rattle.named_families.specs.declared.petersson.MakeErr.{MakeErr}
 use Rattle.named_families.specs.declared.petersson.MakeErr.TheVariants as make
 use Rattle.airy_io.specs.Causes.{Taking}
-use Rattle.airyrun.specs.Report.{Report, Ends, out_of_memory}
-use Rattle.airyrun.specs.Tables.{making_report, making_error, has_letter, structure_of}
-use Rattle.airyrun.specs.Relations.{IsVerdict, relations_report, closed, text_relations, family_tensors, family_over, family_relations}
+use Rattle.run_reports.specs.Report.{Report, Ends, out_of_memory}
+use Rattle.run_reports.specs.Tables.{making_report}
+use Rattle.airyrun.specs.Tables.{making_error, structure_of}
+use Rattle.run_reports.specs.Structures.{has_letter}
+use Rattle.run_reports.specs.Relations.{IsVerdict, relations_report, closed, text_relations}
+use Rattle.airyrun.specs.Relations.{family_tensors, family_over, family_relations}
 use Rattle.airyrun.specs.Run.{LeadsToRelations, LeadsToFamilyRelations, LeadsToTextRelations}
-use Rattle.airyrun.specs.Ends.{EndsBy}
-
--- a verdict that a check answered
-pub verdict_tells : (T : Tensors) (N : ℕ) (v : Verdict) → v ≡ verdict T N → (v ≡ Closed → Close T N) → TellsFailure T N v → IsVerdict T N
-unfolding TellsFailure
-verdict_tells T N v e closes differs = record {
-  holds = λ h. closes (e ∙ h);
-  fails = λ rel place left right h close. let failed : Fails T N rel place left right = subst (TellsFailure T N) (e ∙ h) differs in failed.not_closed close;
-}
+use Rattle.run_reports.specs.Ends.{EndsBy}
 
 status_closed : (v : Verdict) → (relations_report v closed).status ≡ 0 → v ≡ Closed
 unfolding relations_report closed

@@ -1,83 +1,98 @@
 -- Admitted replies show what every solution has.
-use Rattle.std.proofs.Common.{◌≡◌, ◌⊎◌, inl, inr, ℕ, ◌<◌, refl, sym, ap, ◌∙◌, subst}
-use Rattle.std.specs.Prelude.{Bool, true, false, cond, List, ◌&&◌}
+use Rattle.std.proofs.Common.{◌≡◌, ◌⊎◌, inl, inr, ℕ, ◌<◌, ◌≤◌, refl, sym, ap, ◌∙◌, subst, arith}
+use Rattle.std.specs.Prelude.{Bool, true, false, cond, List, [], ◌∷◌, ◌&&◌}
 use lib.Dec.{ltb}
 use lib.ListN.{get_or}
-use Rattle.airy_math.specs.Rational.{ℚ, ◌*ℚ◌}
 use Rattle.airy_math.specs.Keys.{Key}
 use Rattle.airy_math.specs.Shapes.{covers}
 use Rattle.airy_math.specs.Levels.{euler_of}
-use Rattle.airy_math.specs.Cuts.{power, letter_of}
+use Rattle.airy_math.specs.Cuts.{letter_of}
 use Rattle.airy_math.specs.Tensors.{Tensors, SameEntries}
 use Rattle.airy_math.specs.BelowDim.{BelowDimLaw}
 use Rattle.series_law.specs.SameTables.{SameTablesLaw}
 use Rattle.airy_math.specs.Planned.{planned}
-use Rattle.airy_math.specs.Ranks.{place_of, key_at}
-use Rattle.airy_math.specs.Jobs.{Structure, Wk, Bgw, Wp, Bulk, Text, Lettered, IsSound, letter_value, planned_tensors}
-use Rattle.airy_math.proofs.ExactLaw.{power-one}
+use Rattle.airy_math.specs.Ranks.{place_of, key_at, PlanLaw}
+use Rattle.airy_math.specs.Jobs.{Structure, IsSound, planned_tensors}
+use Rattle.amp_plan.specs.Limits.{limit}
 use Rattle.amp_plan.specs.Places.{are_below}
 use Rattle.amp_plan.specs.declared.place.Place.{Place}
 use Rattle.amp_plan.specs.declared.place.Place.TheVariants as place
 use Rattle.amp_terms.specs.declared.Outcome.{Outcome}
 use Rattle.amp_terms.specs.declared.Outcome.TheVariants as outcome
 use Rattle.amp_terms.specs.Outcomes.{outcomes}
-use Rattle.series_law.specs.Jobs.{JobUniquenessLaw}
+use Rattle.series_law.specs.Jobs.{JobSessionLaw}
 use Rattle.ask_seats.specs.Replies.{Reply, NotYet, Value, Blocked}
-use Rattle.ask_seats.specs.Sessions.{Stage, Replied, IsAdmitted, start, told, told_at, place_at, outcome_reply, is_rank, is_open, is_unsettled}
+use Rattle.ask_seats.specs.Sessions.{Stage, Replied, IsAdmitted, start, finish, behind, growth, grown, bound_after, told, told_at, place_at, outcome_reply, is_rank, is_open, is_unsettled}
+use Rattle.ask_seats.proofs.ReplyLemmas.{behind-bound, grows-up}
 use Rattle.command_words.specs.declared.line.Line.{Line}
-use Rattle.ask_seats.proofs.ReplyLemmas.{replied-map}
-use Rattle.airyrun.specs.Tables.{has_letter}
+use Rattle.command_words.specs.declared.line.Line.TheVariants.{Ask, Finish, Grow}
+use Rattle.command_words.specs.Bounds.{reach}
+use Rattle.command_words.specs.Lines.{Rises}
+use Rattle.command_words.proofs.ScriptLemmas.{below_reach}
+use Rattle.run_reports.specs.Structures.{has_letter}
+use Rattle.airyrun.specs.Tables.{is_bound}
 use Rattle.airyrun.specs.Sessions.{session_of, IsShown, SessionShownLaw, SameRepliesLaw}
+use Rattle.run_reports.proofs.LimitLemmas.{limit_same}
+use Rattle.run_reports.proofs.HeadlineLemmas.{shown_value, TableShows}
 
--- the power of the letter is that of its value
-letter_power : (s : Structure) (v : ℚ) (n : ℕ) → power (letter_value s v) n ≡ power (letter_value s v) (cond (has_letter s) n 0)
-unfolding letter_value has_letter power
-letter_power Wk v n = power-one n
-letter_power Bgw v n = power-one n
-letter_power Wp v n = refl
-letter_power (Bulk T) v n = power-one n
-letter_power (Text T) v n = power-one n
-letter_power (Lettered T) v n = refl
+module _ (s : Structure) (X Y : ℕ) (shows : TableShows s X Y) where
+  abbrev T : Tensors
+  T = planned_tensors s Y
 
--- what the table's Value at a key shows
-pub shown_value : JobUniquenessLaw → (s : Structure) (X : ℕ) → IsSound s → 0 < X → (key : Key) (w : ℚ)
-    → get_or (outcomes (planned_tensors s X) X) (place_of key (planned (planned_tensors s X) X)) outcome.Over ≡ outcome.Value w
-    → IsShown s X key (Value w (cond (has_letter s) (letter_of (planned_tensors s X).shape key) 0))
-unfolding IsShown
-shown_value laws s X sound some key w e =
-    λ m v f sol. (laws s X sound some m v f sol).values key w e ∙ ap (λ q. q *ℚ w) (letter_power s v (letter_of (planned_tensors s X).shape key))
-
-module _ (laws : JobUniquenessLaw) (s : Structure) (X crew : ℕ) (sound : IsSound s) (some : 0 < X) where
-  T : Tensors
-  T = planned_tensors s X
-
-  shown_outcome : (key : Key) (o : Outcome) → get_or (outcomes T X) (place_of key (planned T X)) outcome.Over ≡ o → IsShown s X key (outcome_reply (planned_tensors s X) (has_letter s) X key o)
-  unfolding IsShown outcome_reply T
-  shown_outcome key (outcome.Value w) e = shown_value laws s X sound some key w e
+  shown_outcome : (key : Key) (o : Outcome) → get_or (outcomes T X) (place_of key (planned T X)) outcome.Over ≡ o → IsShown s X Y key (outcome_reply T (has_letter s) X key o)
+  unfolding IsShown outcome_reply
+  shown_outcome key (outcome.Value w) e = shown_value s X Y shows key w e
   shown_outcome key outcome.Over e = tt
   shown_outcome key (outcome.Blocked r) e = tt
 
-  shown_told : (key : Key) → IsShown s X key (told (planned_tensors s X) (has_letter s) X key)
-  unfolding told told_at place_at IsShown T
+  shown_told : (key : Key) → IsShown s X Y key (told T (has_letter s) X key)
+  unfolding told told_at place_at IsShown
   shown_told key = by (ltb X (euler_of key)) (covers T.shape key) (are_below T.dim key.idx) refl
     where
       by : (b c d : Bool) → covers T.shape key ≡ c
-          → IsShown s X key (told_at (planned_tensors s X) (has_letter s) X key (cond b place.Beyond (cond c (cond d (place.At (place_of key (planned T X))) place.BadIndex) place.Zero)))
+          → IsShown s X Y key (told_at T (has_letter s) X key (cond b place.Beyond (cond c (cond d (place.At (place_of key (planned T X))) place.BadIndex) place.Zero)))
       by true c d e = tt
       by false true true e = shown_outcome key _ refl
       by false true false e = tt
-      by false false d e = λ m v f sol sorted. (laws s X sound some m v f sol).zeros key sorted (inl e)
+      by false false d e = λ m v f wide so sorted. (shows m v f wide so).zeros key sorted (inl e)
 
-  shown_one : (stage : Stage) (key : Key) (reply : Reply) → stage.bound ≡ X → IsAdmitted (session_of s X crew) stage key reply → IsShown s stage.bound key reply
+module _ (law : JobSessionLaw) (s : Structure) (Y crew : ℕ) (sound : IsSound s) where
+  shown_one : (stage : Stage) (key : Key) (reply : Reply) → 0 < stage.bound → stage.bound ≤ Y → IsAdmitted (session_of s Y crew) stage key reply → IsShown s stage.bound Y key reply
   unfolding IsShown session_of
-  shown_one stage key reply e a = subst (λ B. IsShown s B key reply) (sym e) (by a.said)
+  shown_one stage key reply some most a = by a.said
     where
-      by : {B : Type 0} → (reply ≡ told (planned_tensors s X) (has_letter s) stage.bound key) ⊎ ((reply ≡ NotYet) × B) → IsShown s X key reply
-      by (inl said) = subst (IsShown s X key) (sym (said ∙ ap (λ B. told (planned_tensors s X) (has_letter s) B key) e)) (shown_told key)
-      by (inr waits) = subst (IsShown s X key) (sym waits.0) tt
+      by : {B : Type 0} → (reply ≡ told (planned_tensors s Y) (has_letter s) stage.bound key) ⊎ ((reply ≡ NotYet) × B) → IsShown s stage.bound Y key reply
+      by (inl said) = subst (IsShown s stage.bound Y key) (sym said) (shown_told s stage.bound Y (λ m v f wide so. law s stage.bound Y sound some most m v f wide so) key)
+      by (inr waits) = subst (IsShown s stage.bound Y key) (sym waits.0) tt
 
-pub shown_law : JobUniquenessLaw → SessionShownLaw
-shown_law laws s X crew lines replies sound some admitted = replied-map _ _ X (shown_one laws s X crew sound some) (start X) refl lines replies admitted
+-- ---- replies at bounds that rise to Y at most
+
+pub bounded : (X : ℕ) → 0 < X → X ≤ 24 → is_bound X ≡ true
+unfolding is_bound
+bounded X some most = grind arith
+
+module _ (T : Tensors) (P Q : Stage → Key → Reply → Type 0) (Y : ℕ) (turn : (stage : Stage) (key : Key) (reply : Reply) → 0 < stage.bound → stage.bound ≤ Y → P stage key reply → Q stage key reply) where
+  replied-rising : (stage : Stage) (X : ℕ) (lines : List Line) (replies : List Reply) → 0 < stage.bound → stage.bound ≤ X → Rises X lines → reach X lines ≤ Y → Replied T P stage lines replies → Replied T Q stage lines replies
+  unfolding Replied finish grown Rises reach
+  replied-rising stage X [] [] some low rise most r = tt
+  replied-rising stage X [] (reply ∷ replies) some low rise most r = r
+  replied-rising stage X (Finish ∷ lines) replies some low rise most r = replied-rising (finish stage) X lines replies some low rise most r
+  replied-rising stage X (Ask key ∷ lines) [] some low rise most r = r
+  replied-rising stage X (Ask key ∷ lines) (reply ∷ replies) some low rise most r =
+      let e = behind-bound stage key reply in (
+        turn stage key reply some (omega (arith, low, below_reach X lines rise, most)) r.0,
+        replied-rising (behind stage key reply) X lines replies (subst (λ n. 0 < n) (sym e) some) (subst (λ n. n ≤ X) (sym e) low) rise most r.1,
+      )
+  replied-rising stage X (Grow Z ∷ lines) [] some low rise most r = r
+  replied-rising stage X (Grow Z ∷ lines) (reply ∷ replies) some low rise most r =
+      let up = grows-up (limit T Z) stage.bound Z (omega (arith, low, rise.0)) in
+      let b : is_bound X ≡ true = bounded X (omega (arith, some, low)) (omega (arith, rise.0, rise.1)) in
+      (r.0, replied-rising (grown T Z stage) Z lines replies (omega (arith, some, up.0)) up.1 rise.2 (subst (λ t. cond t (reach Z lines) X ≤ Y) b most) r.1)
+
+pub shown_law : JobSessionLaw → SessionShownLaw
+unfolding session_of
+shown_law law s X Y crew lines replies sound some rise most admitted =
+    replied-rising (planned_tensors s Y) _ _ Y (shown_one law s Y crew sound) (start X) X lines replies some (omega arith) rise most admitted
 
 -- ---- tensors with the same entries below dim have the same admitted replies
 
@@ -119,8 +134,21 @@ module _ (T T' : Tensors) (letter : Bool) (crew : ℕ) (same : SameEntries T T')
     alone = λ none u. a.alone none (same_unsettled st key ∙ u);
   }
 
-  pub same_admitted : (st : Stage) (lines : List Line) (replies : List Reply) → Replied (IsAdmitted (record { tensors = T; letter = letter; crew = crew })) st lines replies → Replied (IsAdmitted (record { tensors = T'; letter = letter; crew = crew })) st lines replies
-  same_admitted st lines replies h = replied-map _ _ st.bound (λ stage key reply e a. same_reply stage key reply a) st refl lines replies h
+  same_admitted : PlanLaw → (st : Stage) (lines : List Line) (replies : List Reply) → Replied T (IsAdmitted (record { tensors = T; letter = letter; crew = crew })) st lines replies
+      → Replied T' (IsAdmitted (record { tensors = T'; letter = letter; crew = crew })) st lines replies
+  unfolding Replied grown
+  same_admitted once st [] [] r = tt
+  same_admitted once st [] (reply ∷ replies) r = r
+  same_admitted once st (Finish ∷ lines) replies r = same_admitted once (finish st) lines replies r
+  same_admitted once st (Ask key ∷ lines) [] r = r
+  same_admitted once st (Ask key ∷ lines) (reply ∷ replies) r = (same_reply st key reply r.0, same_admitted once (behind st key reply) lines replies r.1)
+  same_admitted once st (Grow Z ∷ lines) [] r = r
+  same_admitted once st (Grow Z ∷ lines) (reply ∷ replies) r =
+      let e = limit_same T T' Z once (below T T' same) in (
+        r.0 ∙ ap (λ l. growth l Z) e,
+        subst (λ l. Replied T' (IsAdmitted (record { tensors = T'; letter = letter; crew = crew })) (record st { bound = bound_after l st.bound Z }) lines replies) e
+            (same_admitted once (record st { bound = bound_after (limit T Z) st.bound Z }) lines replies r.1),
+      )
 
-pub same_replies : BelowDimLaw → SameTablesLaw → SameRepliesLaw
-same_replies below tables T T' letter X crew lines replies same h = same_admitted T T' letter crew same below tables (start X) lines replies h
+pub same_replies : PlanLaw → BelowDimLaw → SameTablesLaw → SameRepliesLaw
+same_replies once below tables T T' letter X crew lines replies same h = same_admitted T T' letter crew same below tables once (start X) lines replies h

@@ -1,12 +1,12 @@
 -- The status of a run and its cause, both ways.
-use Rattle.std.proofs.Common.{◌≡◌, ◌≢◌, ◌⊎◌, inl, inr, ℕ, ◌≤◌, ◌<◌, ◌==◌, ◌++◌, [], arith, refl, sym, ap, ◌∙◌, subst, length, append-nil}
+use Rattle.std.proofs.Common.{◌≡◌, ◌≢◌, ◌⊎◌, inl, inr, ℕ, ◌≤◌, ◌==◌, [], arith, refl, sym, ap, ◌∙◌, subst, length}
 use Rattle.std.proofs.lemmas.Bool.Decides.{nat_tests}
 use Rattle.std.specs.Prelude.{Option, Some, None, Bool, true, false, cond, List, nat_le}
-use Rattle.std.specs.Io.KnownBytes.{Consumes, IsAtEnd}
+use Rattle.std.specs.Io.KnownBytes.{Consumes}
 use Rattle.airy_io.specs.Causes.{Giving, Rose}
 use Rattle.airy_math.specs.Jobs.{Structure, planned_tensors}
 use Rattle.amp_plan.specs.Limits.{Limit, Within, PassesBound, PassesCells, PassesNeeds, limit}
-use Rattle.sparse_tensor.specs.Entries.{Entries}
+use Rattle.sparse_tensor.specs.Entries.{Entries, looked_up}
 use Rattle.tensor_text.specs.Grammar.{TextReading, Read}
 use Rattle.tensor_text.specs.Grammar as grammar
 use Rattle.tensor_text.specs.Answers.{IsWhole}
@@ -16,18 +16,24 @@ use Rattle.command_words.specs.declared.line.Line.{Line}
 use Rattle.airy_relations.specs.declared.verdict.Verdict.{Verdict}
 use Rattle.airy_relations.specs.declared.verdict.Verdict.TheVariants.{Closed, Differs, Over}
 use Rattle.airy_relations.specs.Verdicts.{verdict}
-use Rattle.sparse_tensor.specs.Entries.{looked_up}
-use Rattle.airyrun.specs.Relations.{relations_report, of_relations, text_relations}
+use Rattle.run_reports.specs.Relations.{relations_report, of_relations, text_relations}
 use Rattle.command_words.specs.Words.{Reading, Named, Text, Table, Session, Probe, Relations, Number, Volume, Bulk, Refused}
 use Rattle.command_words.specs.Options.{reading_of}
-use Rattle.airyrun.specs.Report.{Report, bound_refused, out_of_memory}
-use Rattle.airyrun.specs.Tables.{is_bound, structure_of, text_structure, making_over, making_report, plan_report, table_report}
+use Rattle.run_reports.specs.Report.{Report, bound_refused, out_of_memory}
+use Rattle.run_reports.specs.Tables.{making_report, plan_report}
+use Rattle.airyrun.specs.Tables.{is_bound, structure_of, making_over, table_report}
+use Rattle.run_reports.specs.Structures.{text_structure}
 use Rattle.airyrun.specs.Sessions.{session_of, session_report, LeadsToSession}
-use Rattle.airyrun.specs.Texts.{read_fault, text_too_long, line_refused}
-use Rattle.airyrun.specs.Run.{Run, Answers, Leads, LeadsToTable, LeadsFromText, failed, wanting, long, refused, read, LeadsWithBound, beyond, within}
-use Rattle.airyrun.specs.Laws.{of_reading, of_text, closed_table, closed_session, probed_table, meant, MayReply, OneStatusLaw, OneReportLaw, Gives, GivesMeant, TakesMemory, HasCauses, IsComplete}
+use Rattle.command_words.specs.Bounds.{reach}
+use Rattle.run_reports.specs.Texts.{read_fault, text_too_long, line_refused}
+use Rattle.run_reports.specs.Runs.{Run, Gives}
+use Rattle.airyrun.specs.Run.{Answers, Leads, LeadsToTable}
+use Rattle.run_reports.specs.Leads.{LeadsFromText, failed, wanting, long, refused, read, LeadsWithBound, beyond, within, of_reading, of_text}
+use Rattle.airyrun.specs.Laws.{closed_table, closed_session, probed_table, meant, MayReply, OneStatusLaw, OneReportLaw, GivesMeant, IsSession, IsWanting, TakesMemory, HasCauses, IsComplete}
 use Rattle.airyrun.proofs.RunLemmas.{other_family, other_probe, other_closed_table, other_family_session, other_closed_session, other_family_relations, other_text_relations, other_number, other_volume, other_bulk}
-use Rattle.airyrun.proofs.StatusLemmas.{IsPlain, IsOther, plain_ample, plain_table, plain_session, plain_of, plain_checked, plain_family, plain_number, plain_volume, plain_bulk, plain_text, plain_bound}
+use Rattle.run_reports.proofs.StatusLemmas.{status_of, IsPlain, plain_ample, plain_of, plain_text, plain_bound}
+use Rattle.airyrun.proofs.StatusLemmas.{plain_table, plain_session, wants_status, plain_checked, plain_family, plain_number, plain_volume, plain_bulk}
+use Rattle.run_reports.proofs.SourceLemmas.{other_text, other_bound, source_or, told_source, ended, no_longer, of_short, of_long}
 
 -- what led to the status and the bytes
 pub record Told (run : Run) : Type 0 where
@@ -38,28 +44,10 @@ pub record Told (run : Run) : Type 0 where
 told_by : (run : Run) → Answers run → run.status ≢ 9 → Told run
 told_by run answers n = let t = answers.told n in record { report = t.0; leads = t.1; gives = (t.2, t.3) }
 
-status_of : {report whole : Report} → report ≡ whole → report.status ≡ whole.status
-status_of e = ap (λ (r : Report). r.status) e
-
 not_nine : (n s : ℕ) → s ≡ n → (n ≡ 9 → ⊥) → s ≢ 9
 not_nine n s e h k = h (sym e ∙ k)
 
 -- ---- words that are refused
-
--- no report that a text leads to is that of a refused word
-other_text : (next : Entries → Report → Type 0) (old new : Giving) (report : Report) → ((t : Entries) (r : Report) → next t r → IsOther r)
-    → LeadsFromText next old new report → report.status ≢ 2
-unfolding read_fault text_too_long line_refused
-other_text next old new report other (failed rose e) h = omega (arith, status_of e)
-other_text next old new report other (wanting kept e) h = omega (arith, status_of e)
-other_text next old new report other (long kept text consumed len e) h = omega (arith, status_of e)
-other_text next old new report other (refused kept text n kind consumed whole e) h = omega (arith, status_of e)
-other_text next old new report other (read kept text t consumed whole leads) h = (other t report leads).0 h
-
-other_bound : (X : ℕ) (next : Entries → Report → Type 0) (old new : Giving) (report : Report) → ((t : Entries) (r : Report) → next t r → IsOther r)
-    → LeadsWithBound X next old new report → report.status ≢ 2
-other_bound X next old new report other (beyond outside same e) h = omega (arith, status_of e)
-other_bound X next old new report other (within bounded leads) h = other_text next old new report other leads h
 
 refused_word : (run : Run) → Answers run → run.status ≡ 2 → (place : ℕ) × (reading_of run.words ≡ Refused place)
 refused_word run answers e = let t = told_by run answers (not_nine 2 run.status e (λ k. omega arith)) in cause (reading_of run.words) refl t.report t.leads (sym t.gives.0 ∙ e)
@@ -69,7 +57,7 @@ refused_word run answers e = let t = told_by run answers (not_nine 2 run.status 
     cause (Table (Named family) X workers) e report leads h = absurd ((other_family family X report leads).0 h)
     cause (Table Text X workers) e report leads h = absurd (other_bound X _ _ _ report (other_closed_table X) leads h)
     cause (Session (Named family) X workers lines) e report leads h = absurd ((other_family_session family X workers lines report leads).0 h)
-    cause (Session Text X workers lines) e report leads h = absurd (other_bound X _ _ _ report (other_closed_session X workers lines) leads h)
+    cause (Session Text X workers lines) e report leads h = absurd (other_bound (reach X lines) _ _ _ report (other_closed_session X workers lines) leads h)
     cause (Probe X workers) e report leads h = absurd (other_bound X _ _ _ report (other_probe X) leads h)
     cause (Relations N (Named family)) e report leads h = absurd ((other_family_relations family N report leads).0 h)
     cause (Relations N Text) e report leads h = absurd (other_text _ _ _ report (other_text_relations N) leads h)
@@ -83,50 +71,27 @@ refused_word run answers e = let t = told_by run answers (not_nine 2 run.status 
 abbrev Tells : Run → List ℕ → Type 0
 Tells run text = (source : List ℕ) → run.source_before.left ≡ Some source → text ≡ source
 
+-- a report of want of memory
+abbrev Lacks : Reading → Report → Type 0
+Lacks reading report = (report ≡ out_of_memory) ⊎ (IsSession reading × (report.status ≡ 10))
+
+lacks_status : (reading : Reading) (report : Report) → Lacks reading report → report.status ≡ 10
+lacks_status reading report (inl e) = status_of e
+lacks_status reading report (inr h) = h.1
+
 -- how a report stands to what is meant: it is that, with a text and some replies; or the source failed; or memory is wanting, where it is taken
 data Stands (reading : Reading) (run : Run) (whole : List ℕ → List Reply → Report) (good : List ℕ → List Reply → Type 0) (report : Report) : Type 0 where
   is_meant : (text : List ℕ) → Tells run text → (replies : List Reply) → report ≡ whole text replies → (report.status ≡ 0 → good text replies) → Stands reading run whole good report
   at_fault : report.status ≡ 8 → Rose run.source_before.faults run.source_after.faults → Stands reading run whole good report
-  is_wanting : TakesMemory reading → report ≡ out_of_memory → Stands reading run whole good report
-
--- the source's bytes where it tells them, else those that were read
-abbrev source_or : Option (List ℕ) → List ℕ → List ℕ
-source_or None text = text
-source_or (Some source) text = source
-
-told_source : (left : Option (List ℕ)) (text source : List ℕ) → left ≡ Some source → source_or left text ≡ source
-told_source None text source e = cc
-told_source (Some xs) text source e = cc
-
--- they are those that were read, where the source was read to its end
-ended : (text : List ℕ) (left left' : Option (List ℕ)) → Consumes left left' text → IsAtEnd left' → source_or left text ≡ text
-ended text None left' c a = refl
-ended text (Some xs) None c a = absurd c
-ended text (Some xs) (Some ys) c a = c ∙ ap (λ l. text ++ l) a ∙ append-nil text
-
--- and else no fewer
-no_longer : (text : List ℕ) (left left' : Option (List ℕ)) → Consumes left left' text → length text ≤ length (source_or left text)
-no_longer text None left' c = omega arith
-no_longer text (Some xs) None c = absurd c
-no_longer text (Some xs) (Some ys) c =
-    let l : length xs ≡ length (text ++ ys) = ap length c in
-    omega (arith, l, Rattle.std.proofs.Common.length-append text ys)
-
-of_short : (next : Entries → Report) (text : List ℕ) → length text ≤ 1048576 → of_text next text ≡ of_reading next (grammar.reading_of text)
-unfolding of_text
-of_short next text h = let e : nat_le (length text) 1048576 ≡ true = grind arith in rw e refl
-
-of_long : (next : Entries → Report) (text : List ℕ) → 1048576 < length text → of_text next text ≡ text_too_long
-unfolding of_text
-of_long next text h = let e : nat_le (length text) 1048576 ≡ false = grind arith in rw e refl
+  is_wanting : TakesMemory reading → Lacks reading report → Stands reading run whole good report
 
 -- what the entries of a text lead to, told by a report
-abbrev IsNext : (Entries → Report → Type 0) → (List Reply → Entries → Report) → (List ℕ → List Reply → Type 0) → Type 0
-IsNext leads next good =
+abbrev IsNext : Reading → (Entries → Report → Type 0) → (List Reply → Entries → Report) → (List ℕ → List Reply → Type 0) → Type 0
+IsNext reading leads next good =
     (text : List ℕ) (t : Entries) (r : Report) → grammar.reading_of text ≡ Read t → leads t r
-    → ((replies : List Reply) × (r ≡ next replies t) × (r.status ≡ 0 → good text replies)) ⊎ (r ≡ out_of_memory)
+    → ((replies : List Reply) × (r ≡ next replies t) × (r.status ≡ 0 → good text replies)) ⊎ Lacks reading r
 
-module _ (reading : Reading) (run : Run) (leads : Entries → Report → Type 0) (next : List Reply → Entries → Report) (good : List ℕ → List Reply → Type 0) (takes : TakesMemory reading) (is_next : IsNext leads next good) where
+module _ (reading : Reading) (run : Run) (leads : Entries → Report → Type 0) (next : List Reply → Entries → Report) (good : List ℕ → List Reply → Type 0) (takes : TakesMemory reading) (is_next : IsNext reading leads next good) where
   abbrev Follows : Report → Type 0
   Follows report = Stands reading run (λ text replies. of_text (next replies) text) good report
 
@@ -140,7 +105,7 @@ module _ (reading : Reading) (run : Run) (leads : Entries → Report → Type 0)
   text_stands : (report : Report) → LeadsFromText leads run.source_before run.source_after report → Follows report
   unfolding read_fault of_reading text_too_long line_refused
   text_stands report (failed rose e) = at_fault (status_of e) rose
-  text_stands report (wanting kept e) = is_wanting takes e
+  text_stands report (wanting kept e) = is_wanting takes (inl e)
   text_stands report (long kept text consumed len e) =
       is_meant (source_or run.source_before.left text) (told_source run.source_before.left text) []
       (e ∙ sym (of_long (next []) (source_or run.source_before.left text) (omega (arith, len, no_longer text run.source_before.left run.source_after.left consumed)))) (λ z. absurd (omega (arith, status_of e, z)))
@@ -151,29 +116,29 @@ module _ (reading : Reading) (run : Run) (leads : Entries → Report → Type 0)
       given : grammar.reading_of (source_or run.source_before.left text) ≡ Read t
       given = ap grammar.reading_of (ended text run.source_before.left run.source_after.left consumed whole.ended) ∙ whole.given
 
-      by : ((replies : List Reply) × (report ≡ next replies t) × (report.status ≡ 0 → good (source_or run.source_before.left text) replies)) ⊎ (report ≡ out_of_memory) → Follows report
+      by : ((replies : List Reply) × (report ≡ next replies t) × (report.status ≡ 0 → good (source_or run.source_before.left text) replies)) ⊎ Lacks reading report → Follows report
       by (inl m) = is_meant (source_or run.source_before.left text) (told_source run.source_before.left text) m.0 (m.1 ∙ sym (read_whole text (Read t) consumed whole m.0)) m.2
       by (inr e) = is_wanting takes e
 
 bound_stands : (reading : Reading) (run : Run) (X : ℕ) (leads : Entries → Report → Type 0) (next : List Reply → Entries → Report) (good : List ℕ → List Reply → Type 0) (report : Report)
-    → (is_bound X ≡ true → TakesMemory reading) → IsNext leads next good
+    → (is_bound X ≡ true → TakesMemory reading) → IsNext reading leads next good
     → LeadsWithBound X leads run.source_before run.source_after report
     → Stands reading run (λ text replies. cond (is_bound X) (of_text (next replies) text) (bound_refused X)) good report
 bound_stands reading run X leads next good report takes is_next (beyond out kept e) =
     is_meant (source_or run.source_before.left []) (told_source run.source_before.left []) [] (e ∙ rw out refl) (λ z. absurd (omega (arith, status_of e, z)))
 bound_stands reading run X leads next good report takes is_next (within bounded l) = rw bounded (text_stands reading run leads next good (takes bounded) is_next report l)
 
-said_next : (s : Structure) (X : ℕ) (want report : Report) → LeadsToTable s X want report → ((replies : List Reply) × (report ≡ want) × (report.status ≡ 0 → Unit {0})) ⊎ (report ≡ out_of_memory)
-said_next s X want report leads = elim leads.said [ inl e ↦ inl ([], e, λ z. tt) | inr e ↦ inr e.1 ]
+said_next : (reading : Reading) (s : Structure) (X : ℕ) (want report : Report) → LeadsToTable s X want report → ((replies : List Reply) × (report ≡ want) × (report.status ≡ 0 → Unit {0})) ⊎ Lacks reading report
+said_next reading s X want report leads = elim leads.said [ inl e ↦ inl ([], e, λ z. tt) | inr e ↦ inr (inl e.1) ]
 
 -- the entries of a text are told by its reading
 same_entries : (text : List ℕ) (t t' : Entries) → grammar.reading_of text ≡ Read t → grammar.reading_of text ≡ Read t' → t ≡ t'
 same_entries text t t' e e' = cc
 
 said_session : (t : Entries) (text : List ℕ) (X workers : ℕ) (lines : List Line) (whole : List Reply → Report) (report : Report) → grammar.reading_of text ≡ Read t → LeadsToSession (text_structure t) X workers lines whole report
-    → ((replies : List Reply) × (report ≡ whole replies) × (report.status ≡ 0 → (t' : Entries) → grammar.reading_of text ≡ Read t' → Admitted (session_of (text_structure t') X workers) X lines replies)) ⊎ (report ≡ out_of_memory)
+    → ((replies : List Reply) × (report ≡ whole replies) × (report.status ≡ 0 → (t' : Entries) → grammar.reading_of text ≡ Read t' → Admitted (session_of (text_structure t') (reach X lines) workers) X lines replies)) ⊎ Lacks (Session Text X workers lines) report
 said_session t text X workers lines whole report given leads =
-    elim leads.said [ inl e ↦ inl (leads.replies, e, λ z t' e'. subst (λ u. Admitted (session_of (text_structure u) X workers) X lines leads.replies) (same_entries text t t' given e') (leads.admitted z)) | inr e ↦ inr e.1 ]
+    elim leads.said [ inl e ↦ inl (leads.replies, e, λ z t' e'. subst (λ u. Admitted (session_of (text_structure u) (reach X lines) workers) X lines leads.replies) (same_entries text t t' given e') (leads.admitted z)) | inr e ↦ inr (inr (tt, wants_status _ X lines report e.1)) ]
 
 -- how a report stands that a reading leads to
 abbrev Stood : Run → Reading → Report → Type 0
@@ -186,19 +151,19 @@ without_text run reading report replies e good = is_meant (source_or run.source_
 stands_by : (run : Run) (r : Reading) (report : Report) → Leads r run report → Stood run r report
 unfolding meant MayReply closed_table closed_session probed_table
 stands_by run (Refused place) report leads = without_text run (Refused place) report [] leads (λ z. tt)
-stands_by run (Table (Named family) X workers) report leads = elim leads.said [ inl e ↦ without_text run (Table (Named family) X workers) report [] e (λ z. tt) | inr e ↦ is_wanting e.0 e.1 ]
-stands_by run (Table Text X workers) report leads = bound_stands (Table Text X workers) run X _ (λ replies. closed_table X) (λ text replies. Unit {0}) report (λ b. b) (λ text t r given l. said_next _ X _ r l.table) leads
+stands_by run (Table (Named family) X workers) report leads = elim leads.said [ inl e ↦ without_text run (Table (Named family) X workers) report [] e (λ z. tt) | inr e ↦ is_wanting e.0 (inl e.1) ]
+stands_by run (Table Text X workers) report leads = bound_stands (Table Text X workers) run X _ (λ replies. closed_table X) (λ text replies. Unit {0}) report (λ b. b) (λ text t r given l. said_next (Table Text X workers) _ X _ r l.table) leads
 stands_by run (Session (Named family) X workers lines) report leads =
-    elim leads.said [ inl e ↦ without_text run (Session (Named family) X workers lines) report leads.replies e leads.admitted | inr e ↦ is_wanting e.0 e.1 ]
+    elim leads.said [ inl e ↦ without_text run (Session (Named family) X workers lines) report leads.replies e leads.admitted | inr e ↦ is_wanting e.0 (inr (tt, wants_status _ X lines report e.1)) ]
 stands_by run (Session Text X workers lines) report leads =
-    bound_stands (Session Text X workers lines) run X _ (closed_session X) (MayReply (Session Text X workers lines)) report (λ b. b) (λ text t r given l. said_session t text X workers lines _ r given l.session) leads
-stands_by run (Probe X workers) report leads = bound_stands (Probe X workers) run X _ (λ replies. probed_table X) (λ text replies. Unit {0}) report (λ b. b) (λ text t r given l. said_next _ X _ r l.table) leads
-stands_by run (Relations N (Named family)) report leads = elim leads.checked.said [ inl e ↦ without_text run (Relations N (Named family)) report [] e (λ z. tt) | inr e ↦ is_wanting tt e ]
+    bound_stands (Session Text X workers lines) run (reach X lines) _ (closed_session X (reach X lines)) (MayReply (Session Text X workers lines)) report (λ b. b) (λ text t r given l. said_session t text X workers lines _ r given l.session) leads
+stands_by run (Probe X workers) report leads = bound_stands (Probe X workers) run X _ (λ replies. probed_table X) (λ text replies. Unit {0}) report (λ b. b) (λ text t r given l. said_next (Probe X workers) _ X _ r l.table) leads
+stands_by run (Relations N (Named family)) report leads = elim leads.checked.said [ inl e ↦ without_text run (Relations N (Named family)) report [] e (λ z. tt) | inr e ↦ is_wanting tt (inl e) ]
 stands_by run (Relations N Text) report leads =
-    text_stands (Relations N Text) run _ (λ replies. text_relations N) (λ text replies. Unit {0}) tt (λ text t r given l. elim l.said [ inl e ↦ inl ([], e, λ z. tt) | inr e ↦ inr e ]) report leads
-stands_by run (Number family key) report leads = elim leads.said [ inl e ↦ without_text run (Number family key) report [] e (λ z. tt) | inr e ↦ is_wanting e.0 e.1 ]
-stands_by run (Volume g n) report leads = elim leads.said [ inl e ↦ without_text run (Volume g n) report [] e (λ z. tt) | inr e ↦ is_wanting e.0 e.1 ]
-stands_by run (Bulk seed dim X workers) report leads = elim leads.said [ inl e ↦ without_text run (Bulk seed dim X workers) report [] e (λ z. tt) | inr e ↦ is_wanting e.0 e.1 ]
+    text_stands (Relations N Text) run _ (λ replies. text_relations N) (λ text replies. Unit {0}) tt (λ text t r given l. elim l.said [ inl e ↦ inl ([], e, λ z. tt) | inr e ↦ inr (inl e) ]) report leads
+stands_by run (Number family key) report leads = elim leads.said [ inl e ↦ without_text run (Number family key) report [] e (λ z. tt) | inr e ↦ is_wanting e.0 (inl e.1) ]
+stands_by run (Volume g n) report leads = elim leads.said [ inl e ↦ without_text run (Volume g n) report [] e (λ z. tt) | inr e ↦ is_wanting e.0 (inl e.1) ]
+stands_by run (Bulk seed dim X workers) report leads = elim leads.said [ inl e ↦ without_text run (Bulk seed dim X workers) report [] e (λ z. tt) | inr e ↦ is_wanting e.0 (inl e.1) ]
 
 -- memory is wanting only where it is taken
 bound_takes : (X : ℕ) (next : Entries → Report → Type 0) (old new : Giving) (report : Report) → LeadsWithBound X next old new report
@@ -207,7 +172,7 @@ bound_takes X next old new report (beyond out same e') e = absurd (omega (arith,
 bound_takes X next old new report (within bounded l) e = bounded
 
 -- a report of a job without a text that is not what is meant is taken where memory is
-taken : {A : Type 0} {report whole : Report} → IsPlain whole → (report ≡ whole) ⊎ (A × (report ≡ out_of_memory)) → report.status ≡ 10 → A
+taken : {A B : Type 0} {report whole : Report} → IsPlain whole → (report ≡ whole) ⊎ (A × B) → report.status ≡ 10 → A
 taken plain (inl t) e = absurd (plain_ample plain (sym (status_of t) ∙ e))
 taken plain (inr w) e = w.0
 
@@ -215,8 +180,8 @@ wanting_takes : (run : Run) (r : Reading) (report : Report) → Leads r run repo
 wanting_takes run (Refused place) report leads e = absurd (omega (arith, status_of leads, e))
 wanting_takes run (Table (Named family) X workers) report leads e = taken (plain_table (structure_of family) X) leads.said e
 wanting_takes run (Table Text X workers) report leads e = bound_takes X _ _ _ report leads e
-wanting_takes run (Session (Named family) X workers lines) report leads e = taken (plain_session (structure_of family) X leads.replies) leads.said e
-wanting_takes run (Session Text X workers lines) report leads e = bound_takes X _ _ _ report leads e
+wanting_takes run (Session (Named family) X workers lines) report leads e = taken (plain_session (structure_of family) X (reach X lines) leads.replies) leads.said e
+wanting_takes run (Session Text X workers lines) report leads e = bound_takes (reach X lines) _ _ _ report leads e
 wanting_takes run (Probe X workers) report leads e = bound_takes X _ _ _ report leads e
 wanting_takes run (Relations N kind) report leads e = tt
 wanting_takes run (Number family key) report leads e = taken (plain_number (structure_of family) key) leads.said e
@@ -241,9 +206,9 @@ unfolding meant closed_table closed_session probed_table
 meant_range (Refused place) text replies = inr (omega arith, omega arith)
 meant_range (Table (Named family) X workers) text replies = plain_range (plain_table (structure_of family) X)
 meant_range (Table Text X workers) text replies = plain_range (plain_bound X _ (plain_text (closed_table X) (λ t. plain_of t (table_report (text_structure t) X) (plain_table (text_structure t) X)) text))
-meant_range (Session (Named family) X workers lines) text replies = plain_range (plain_session (structure_of family) X replies)
+meant_range (Session (Named family) X workers lines) text replies = plain_range (plain_session (structure_of family) X (reach X lines) replies)
 meant_range (Session Text X workers lines) text replies =
-    plain_range (plain_bound X _ (plain_text (closed_session X replies) (λ t. plain_of t (session_report (text_structure t) X replies) (plain_session (text_structure t) X replies)) text))
+    plain_range (plain_bound (reach X lines) _ (plain_text (closed_session X (reach X lines) replies) (λ t. plain_of t (session_report (text_structure t) X (reach X lines) replies) (plain_session (text_structure t) X (reach X lines) replies)) text))
 meant_range (Probe X workers) text replies = plain_range (plain_bound X _ (plain_text (probed_table X) (λ t. plain_table (text_structure t) X) text))
 meant_range (Relations N (Named family)) text replies = plain_range (plain_family family N)
 meant_range (Relations N Text) text replies = plain_range (plain_text (text_relations N) (plain_checked N) text)
@@ -254,34 +219,41 @@ meant_range (Bulk seed dim X workers) text replies = plain_range (plain_bulk see
 stood_range : (run : Run) (r : Reading) (report : Report) → Stood run r report → IsInRange report.status
 stood_range run r report (is_meant text told replies e good) = subst IsInRange (sym (status_of e)) (meant_range r text replies)
 stood_range run r report (at_fault e rose) = inr (omega (arith, e), omega (arith, e))
-stood_range run r report (is_wanting takes e) = inr (omega (arith, status_of e), omega (arith, status_of e))
+stood_range run r report (is_wanting takes e) = let ten = lacks_status r report e in inr (omega (arith, ten), omega (arith, ten))
 
 module _ (run : Run) (answers : Answers run) where
-  in_reading : run.status ≢ 9 → (report : Report) × Gives run report × Stood run (reading_of run.words) report
-  in_reading n = let t = told_by run answers n in (t.report, t.gives, stands_by run (reading_of run.words) t.report t.leads)
+  in_reading : run.status ≢ 9 → (report : Report) × Leads (reading_of run.words) run report × Gives run report × Stood run (reading_of run.words) report
+  in_reading n = let t = told_by run answers n in (t.report, t.leads, t.gives, stands_by run (reading_of run.words) t.report t.leads)
 
   given : (report : Report) → Gives run report → (text : List ℕ) → Tells run text → (replies : List Reply) → report ≡ meant (reading_of run.words) text replies
       → (report.status ≡ 0 → MayReply (reading_of run.words) text replies) → GivesMeant run
   given report gives text told replies e good = record { text = text; told = told; report = report; means = record { replies = replies; said = e; admitted = good }; gives = gives }
 
   job_cause : run.status ≢ 8 → run.status ≢ 9 → run.status ≢ 10 → GivesMeant run
-  job_cause eight nine ten = let t = in_reading nine in by t.0 t.1 t.2
+  job_cause eight nine ten = let t = in_reading nine in by t.0 t.2 t.3
     where
       by : (report : Report) → Gives run report → Stood run (reading_of run.words) report → GivesMeant run
       by report gives (is_meant text told replies e good) = given report gives text told replies e good
       by report gives (at_fault e rose) = absurd (eight (gives.0 ∙ e))
-      by report gives (is_wanting takes e) = absurd (ten (gives.0 ∙ status_of e))
+      by report gives (is_wanting takes e) = absurd (ten (gives.0 ∙ lacks_status (reading_of run.words) report e))
 
   memory_cause : run.status ≡ 10 → TakesMemory (reading_of run.words)
   memory_cause e = let t = told_by run answers (not_nine 10 run.status e (λ k. omega arith)) in wanting_takes run (reading_of run.words) t.report t.leads (sym t.gives.0 ∙ e)
 
-  completed : (Rose run.source_before.faults run.source_after.faults → ⊥) → (Rose run.sink_before.faults run.sink_after.faults → ⊥) → GivesMeant run ⊎ (TakesMemory (reading_of run.words) × Gives run out_of_memory)
-  completed source sink = let t = in_reading (λ e. sink (answers.write_cause e)) in by t.0 t.1 t.2
+  abbrev GivesWanting : Type 0
+  GivesWanting = TakesMemory (reading_of run.words) × ((report : Report) × IsWanting (reading_of run.words) run report × Gives run report)
+
+  wants_by : (report : Report) → Leads (reading_of run.words) run report → Lacks (reading_of run.words) report → IsWanting (reading_of run.words) run report
+  wants_by report leads (inl e) = inl e
+  wants_by report leads (inr h) = inr (h.0, leads, h.1)
+
+  completed : (Rose run.source_before.faults run.source_after.faults → ⊥) → (Rose run.sink_before.faults run.sink_after.faults → ⊥) → GivesMeant run ⊎ GivesWanting
+  completed source sink = let t = in_reading (λ e. sink (answers.write_cause e)) in by t.0 t.1 t.2 t.3
     where
-      by : (report : Report) → Gives run report → Stood run (reading_of run.words) report → GivesMeant run ⊎ (TakesMemory (reading_of run.words) × Gives run out_of_memory)
-      by report gives (is_meant text told replies e good) = inl (given report gives text told replies e good)
-      by report gives (at_fault e rose) = absurd (source rose)
-      by report gives (is_wanting takes e) = inr (takes, subst (Gives run) e gives)
+      by : (report : Report) → Leads (reading_of run.words) run report → Gives run report → Stood run (reading_of run.words) report → GivesMeant run ⊎ GivesWanting
+      by report leads gives (is_meant text told replies e good) = inl (given report gives text told replies e good)
+      by report leads gives (at_fault e rose) = absurd (source rose)
+      by report leads gives (is_wanting takes e) = inr (takes, (report, wants_by report leads e, gives))
 
   in_range : IsInRange run.status
   in_range = by (run.status == 9) refl
@@ -290,7 +262,7 @@ module _ (run : Run) (answers : Answers run) where
       by true e = let n : run.status ≡ 9 = grind (arith, nat_tests) in inr (omega arith, omega arith)
       by false e =
           let n : run.status ≢ 9 = grind (arith, nat_tests) in let t = in_reading n in
-          subst IsInRange (sym (t.1).0) (stood_range run (reading_of run.words) t.0 t.2)
+          subst IsInRange (sym (t.2).0) (stood_range run (reading_of run.words) t.0 t.3)
 
 pub causes : (run : Run) → Answers run → HasCauses run
 causes run answers = record {
@@ -320,11 +292,11 @@ one_report (Number family key) text a b plain x y = x.said ∙ sym y.said
 one_report (Volume g n) text a b plain x y = x.said ∙ sym y.said
 one_report (Bulk seed dim X workers) text a b plain x y = x.said ∙ sym y.said
 
-session_status : (s : Structure) (X : ℕ) (a b : List Reply) → (session_report s X a).status ≡ (session_report s X b).status
+session_status : (s : Structure) (X Y : ℕ) (a b : List Reply) → (session_report s X Y a).status ≡ (session_report s X Y b).status
 unfolding session_report making_report plan_report
-session_status s X a b = by (is_bound X) (making_over s X) (limit (planned_tensors s X) X)
+session_status s X Y a b = by (is_bound Y) (making_over s Y) (limit (planned_tensors s Y) X)
   where
-    by : (t : Bool) (o : Option ℕ) (l : Limit) → (cond t (making_report o (plan_report X l (record { status = 0; bytes = lines_text a }))) (bound_refused X)).status ≡ (cond t (making_report o (plan_report X l (record { status = 0; bytes = lines_text b }))) (bound_refused X)).status
+    by : (t : Bool) (o : Option ℕ) (l : Limit) → (cond t (making_report o (plan_report X l (record { status = 0; bytes = lines_text a }))) (bound_refused Y)).status ≡ (cond t (making_report o (plan_report X l (record { status = 0; bytes = lines_text b }))) (bound_refused Y)).status
     by false o l = refl
     by true (Some k) l = refl
     by true None Within = refl
@@ -352,12 +324,13 @@ unfolding meant closed_session of_relations
 meant_status (Refused place) text a b = refl
 meant_status (Table (Named family) X workers) text a b = refl
 meant_status (Table Text X workers) text a b = refl
-meant_status (Session (Named family) X workers lines) text a b = session_status (structure_of family) X a b
-meant_status (Session Text X workers lines) text a b = by (is_bound X)
+meant_status (Session (Named family) X workers lines) text a b = session_status (structure_of family) X (reach X lines) a b
+meant_status (Session Text X workers lines) text a b = by (is_bound (reach X lines))
   where
-    by : (t : Bool) → (cond t (of_text (closed_session X a) text) (bound_refused X)).status ≡ (cond t (of_text (closed_session X b) text) (bound_refused X)).status
+    by : (t : Bool) → (cond t (of_text (closed_session X (reach X lines) a) text) (bound_refused (reach X lines))).status ≡ (cond t (of_text (closed_session X (reach X lines) b) text) (bound_refused (reach X lines))).status
     by false = refl
-    by true = text_status (closed_session X a) (closed_session X b) (λ t. closed_status (verdict (looked_up t) t.dim) _ _ (session_status (text_structure t) X a b)) text
+    by true =
+        text_status (closed_session X (reach X lines) a) (closed_session X (reach X lines) b) (λ t. closed_status (verdict (looked_up t) t.dim) _ _ (session_status (text_structure t) X (reach X lines) a b)) text
 meant_status (Probe X workers) text a b = refl
 meant_status (Relations N (Named family)) text a b = refl
 meant_status (Relations N Text) text a b = refl

@@ -1,60 +1,34 @@
 -- The statuses of the reports that a job leads to where no end fails and memory is not wanting.
-use Rattle.std.proofs.Common.{◌≡◌, ◌≢◌, ◌⊎◌, inl, inr, ℕ, ◌≤◌, min, arith, refl, length}
+use Rattle.std.proofs.Common.{◌≡◌, inl, inr, ℕ, min, arith, refl, ap, ◌∙◌, [], ◌∷◌}
 use Rattle.std.specs.Prelude.{Option, Some, None, Bool, true, false, cond, List, nat_le}
 use Rattle.airy_math.specs.Tensors.{Tensors}
 use Rattle.airy_math.specs.Planned.{planned}
-use Rattle.airy_math.specs.Jobs.{Structure, planned_tensors}
+use Rattle.airy_math.specs.Jobs.{Structure, planned_tensors, Wp, Bulk}
 use Rattle.amp_plan.specs.Limits.{Limit, Within, PassesBound, PassesCells, PassesNeeds, limit}
-use Rattle.amp_terms.specs.Tables.{full_table}
+use Rattle.amp_terms.specs.Tables.{full_table, first_without}
 use Rattle.series_law.specs.Check as check
 use Rattle.sparse_tensor.specs.Entries.{Entries, looked_up}
-use Rattle.tensor_text.specs.Grammar.{TextReading, Read, Refused, reading_of}
 use Rattle.airy_relations.specs.declared.verdict.Verdict.{Verdict}
-use Rattle.airy_relations.specs.declared.verdict.Verdict.TheVariants.{Closed, Differs, Over}
 use Rattle.airy_relations.specs.Verdicts.{verdict}
 use Rattle.ask_seats.specs.Replies.{Reply, lines_text}
-use Rattle.airyrun.specs.Report.{Report, bound_refused, out_of_memory}
-use Rattle.airyrun.specs.Tables.{is_bound, making_over, making_report, table_report, has_letter, checked_report, verdict_of, plan_report, cells_report}
-use Rattle.airyrun.specs.Texts.{text_too_long, line_refused}
-use Rattle.airyrun.specs.Relations.{relations_report, of_relations, text_relations, family_tensors, family_over, family_relations, closed}
-use Rattle.airyrun.specs.Sessions.{session_report}
-use Rattle.airyrun.specs.Laws.{of_reading, of_text}
-use Rattle.airyrun.specs.Forms.{summed}
+use Rattle.run_reports.specs.Report.{Report, bound_refused}
+use Rattle.run_reports.specs.Tables.{making_report, checked_report, verdict_of, plan_report, cells_report}
+use Rattle.airyrun.specs.Tables.{is_bound, making_over, table_report}
+use Rattle.run_reports.specs.Structures.{has_letter}
+use Rattle.run_reports.specs.Relations.{relations_report, text_relations, closed}
+use Rattle.airyrun.specs.Relations.{family_tensors, family_over, family_relations}
+use Rattle.ask_seats.specs.Sessions.{Session}
+use Rattle.command_words.specs.declared.line.Line.{Line}
+use Rattle.airyrun.specs.Sessions.{Wants, at_first, at_grow, session_report, wanting_behind}
+use Rattle.run_reports.specs.Forms.{summed}
 use Rattle.airyrun.specs.Numbers.{first_report, valued_report, quotient, quotient_report, euler_of, number_report, parts_report, volume_parts, volume_lacks, volume_report, terms_refused}
 use Rattle.airyrun.specs.Bulks.{changes_report, bulk_report}
 use Rattle.airy_math.specs.Keys.{Key, euler}
 use Rattle.airy_math.specs.Rational.{ℚ}
-use Rattle.airy_math.specs.Jobs.{Wp, Bulk}
 use Rattle.airy_math.specs.declared.Family.{Family}
-use Rattle.amp_terms.specs.Tables.{first_without}
 use Rattle.correlators.specs.Volumes.{Part, counted}
 use Rattle.bulk_tensors.specs.Bulk.{bulk, bulk_refusal}
-
--- a status that is 0, or one from 3 to 7
-pub record IsPlain (report : Report) : Type 0 where
-  pub is : (report.status ≡ 0) ⊎ ((3 ≤ report.status) × (report.status ≤ 7))
-
--- neither that of a word that is refused, nor that of a failed source
-abbrev pub IsOther : Report → Type 0
-IsOther report = (report.status ≢ 2) × (report.status ≢ 8)
-
-pub plain_other : {r : Report} → IsPlain r → IsOther r
-plain_other {r} plain = by plain.is
-  where
-    by : (r.status ≡ 0) ⊎ ((3 ≤ r.status) × (r.status ≤ 7)) → IsOther r
-    by (inl e) = (λ k. omega arith, λ k. omega arith)
-    by (inr h) = (λ k. omega (arith, h.0, h.1), λ k. omega (arith, h.0, h.1))
-
--- and not that of want of memory
-pub plain_ample : {r : Report} → IsPlain r → r.status ≢ 10
-plain_ample {r} plain = by plain.is
-  where
-    by : (r.status ≡ 0) ⊎ ((3 ≤ r.status) × (r.status ≤ 7)) → r.status ≢ 10
-    by (inl e) = λ k. omega arith
-    by (inr h) = λ k. omega (arith, h.0, h.1)
-
-pub other_wanting : IsOther out_of_memory
-other_wanting = (λ e. omega arith, λ e. omega arith)
+use Rattle.run_reports.proofs.StatusLemmas.{IsPlain, plain_closed, plain_relations, plain_making, plain_bound, plain_plan}
 
 -- the report of each table
 pub plain_table : (s : Structure) (X : ℕ) → IsPlain (table_report s X)
@@ -79,11 +53,11 @@ plain_table s X = by (is_bound X) (making_over s X) (limit T X) (verdict_of T X)
     by true None (PassesNeeds key) v = record { is = inr (omega arith, omega arith) }
 
 -- that of each session, whatever its replies
-pub plain_session : (s : Structure) (X : ℕ) (replies : List Reply) → IsPlain (session_report s X replies)
+pub plain_session : (s : Structure) (X Y : ℕ) (replies : List Reply) → IsPlain (session_report s X Y replies)
 unfolding session_report making_report plan_report
-plain_session s X replies = by (is_bound X) (making_over s X) (limit (planned_tensors s X) X)
+plain_session s X Y replies = by (is_bound Y) (making_over s Y) (limit (planned_tensors s Y) X)
   where
-    by : (b : Bool) (o : Option ℕ) (l : Limit) → IsPlain (cond b (making_report o (plan_report X l (record { status = 0; bytes = lines_text replies }))) (bound_refused X))
+    by : (b : Bool) (o : Option ℕ) (l : Limit) → IsPlain (cond b (making_report o (plan_report X l (record { status = 0; bytes = lines_text replies }))) (bound_refused Y))
     by false o l = record { is = inr (omega arith, omega arith) }
     by true (Some k) l = record { is = inr (omega arith, omega arith) }
     by true None Within = record { is = inl refl }
@@ -91,58 +65,23 @@ plain_session s X replies = by (is_bound X) (making_over s X) (limit (planned_te
     by true None (PassesCells level) = record { is = inr (omega arith, omega arith) }
     by true None (PassesNeeds key) = record { is = inr (omega arith, omega arith) }
 
--- those of the relations
-plain_closed : IsPlain closed
-unfolding closed
-plain_closed = record { is = inl refl }
+-- a session that memory is wanting for
+behind_status : (replies : List Reply) → (wanting_behind replies).status ≡ 10
+unfolding wanting_behind
+behind_status [] = refl
+behind_status (reply ∷ replies) = refl
 
-plain_relations : (v : Verdict) (next : Report) → IsPlain next → IsPlain (relations_report v next)
-unfolding relations_report
-plain_relations Closed next h = h
-plain_relations (Differs rel place left right) next h = record { is = inr (omega arith, omega arith) }
-plain_relations (Over rel place) next h = record { is = inr (omega arith, omega arith) }
-
-pub plain_of : (t : Entries) (next : Report) → IsPlain next → IsPlain (of_relations t next)
-unfolding of_relations
-plain_of t next h = plain_relations (verdict (looked_up t) t.dim) next h
+pub wants_status : (s : Session) (X : ℕ) (lines : List Line) (report : Report) → Wants s X lines report → report.status ≡ 10
+wants_status s X lines report (at_first e) = ap (λ (r : Report). r.status) e
+wants_status s X lines report (at_grow part Z rest there replies admitted e) = ap (λ (r : Report). r.status) e ∙ behind_status replies
 
 pub plain_checked : (N : ℕ) (t : Entries) → IsPlain (text_relations N t)
 unfolding text_relations
 plain_checked N t = plain_relations (verdict (looked_up t) (min N t.dim)) closed plain_closed
 
-plain_making : (o : Option ℕ) (next : Report) → IsPlain next → IsPlain (making_report o next)
-unfolding making_report
-plain_making None next h = h
-plain_making (Some k) next h = record { is = inr (omega arith, omega arith) }
-
 pub plain_family : (f : Family) (N : ℕ) → IsPlain (family_relations f N)
 unfolding family_relations
 plain_family f N = plain_making (family_over f N) (relations_report (verdict (family_tensors f N) N) closed) (plain_relations (verdict (family_tensors f N) N) closed plain_closed)
-
--- those of a text, and of a bound
-pub plain_text : (next : Entries → Report) → ((t : Entries) → IsPlain (next t)) → (text : List ℕ) → IsPlain (of_text next text)
-unfolding of_text of_reading text_too_long line_refused
-plain_text next h text = by (nat_le (length text) 1048576) (reading_of text)
-  where
-    by : (short : Bool) (r : TextReading) → IsPlain (cond short (of_reading next r) text_too_long)
-    by false r = record { is = inr (omega arith, omega arith) }
-    by true (Refused n kind) = record { is = inr (omega arith, omega arith) }
-    by true (Read t) = h t
-
-pub plain_bound : (X : ℕ) (next : Report) → IsPlain next → IsPlain (cond (is_bound X) next (bound_refused X))
-plain_bound X next h = by (is_bound X)
-  where
-    by : (b : Bool) → IsPlain (cond b next (bound_refused X))
-    by false = record { is = inr (omega arith, omega arith) }
-    by true = h
-
--- those of a plan
-plain_plan : (X : ℕ) (l : Limit) (next : Report) → IsPlain next → IsPlain (plan_report X l next)
-unfolding plan_report
-plain_plan X Within next h = h
-plain_plan X PassesBound next h = record { is = inr (omega arith, omega arith) }
-plain_plan X (PassesCells level) next h = record { is = inr (omega arith, omega arith) }
-plain_plan X (PassesNeeds key) next h = record { is = inr (omega arith, omega arith) }
 
 -- those of a number, of a volume, and of a large structure
 plain_first : (keys : List Key) (o : Option ℕ) (next : Report) → IsPlain next → IsPlain (first_report keys o next)

@@ -7,8 +7,10 @@ use Rattle.airy_math.specs.Jobs.{planned_tensors}
 use Rattle.amp_plan.specs.Limits.{Limit, Within, PassesBound, PassesCells, PassesNeeds, limit}
 use Rattle.amp_terms.specs.Tables.{full_table}
 use Rattle.series_law.specs.Check as check
-use Rattle.airyrun.specs.Report.{Report, bound_refused}
-use Rattle.airyrun.specs.Tables.{has_letter, is_bound, making_over, making_report, checked_report, verdict_of, plan_report, cells_report, table_report, whole_table}
+use Rattle.run_reports.specs.Report.{Report, bound_refused}
+use Rattle.run_reports.specs.Tables.{making_report, checked_report, verdict_of, plan_report, cells_report}
+use Rattle.run_reports.specs.Structures.{has_letter, whole_table}
+use Rattle.airyrun.specs.Tables.{is_bound, making_over, table_report}
 use Rattle.airyrun.specs.Laws.{Step, TableStepsLaw}
 use Rattle.airyrun.specs.Laws as steps
 

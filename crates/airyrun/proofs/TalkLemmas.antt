@@ -1,41 +1,45 @@
 -- What a session's parts end with.
-use Rattle.std.proofs.Common.{◌≡◌, ◌≢◌, ◌⊎◌, inl, inr, ℕ, ◌≤◌, List, [], arith, refl, sym, ap, ◌∙◌, subst}
+use Rattle.std.proofs.Common.{◌≡◌, ◌≢◌, ◌⊎◌, inl, inr, ℕ, zero, suc, ◌≤◌, List, [], ◌∷◌, ◌++◌, length, append-nil, arith, refl, sym, ap, ◌∙◌, subst}
 use Rattle.airy_io.specs.Causes.{Taking, Rose}
 use Rattle.sparse_tensor.specs.Entries.{Entries, looked_up}
 use Rattle.amp_plan.specs.Plans.{Planning, tensors_of}
 use Rattle.amp_plan.specs.Limits.{Within, limit_of, Tells}
 use Rattle.amp_plan.specs.declared.PlanCause.{PlanCause}
 use Rattle.amp_plan.specs.declared.PlanCause.TheVariants as cause
-use Rattle.ask_seats.specs.Replies.{Reply}
-use Rattle.ask_seats.specs.Sessions.{Session}
-use Rattle.ask_seats.specs.Asks.{Spoken, CutShort}
+use Rattle.ask_seats.specs.Replies.{Reply, lines_text}
+use Rattle.ask_seats.specs.Sessions.{Session, Admitted}
+use Rattle.ask_seats.specs.Asks.{Spoken, CutShort, StopsAtGrow, Fails}
+use Rattle.ask_seats.specs.declared.session_err.SessionErr.TheVariants as err
+use Rattle.std.specs.Io.KnownBytes.{Appends}
+use Rattle.command_words.specs.Bounds.{IsReached, reach}
+use Rattle.command_words.specs.Lines.{Rises}
 use Rattle.command_words.specs.declared.line.Line.{Line}
-use Rattle.airyrun.specs.Report.{Report, Ends, out_of_memory, bound_refused}
-use Rattle.std.specs.Prelude.{Bool, true, false, None, ◌<◌}
-use Rattle.airy_math.specs.Jobs.{Structure, IsSound, planned_tensors}
+use Rattle.run_reports.specs.Report.{Report, Ends, out_of_memory, bound_refused}
+use Rattle.std.specs.Prelude.{Bool, true, false, Option, Some, None, Ok, ◌<◌, cond}
+use Rattle.airy_math.specs.Jobs.{Structure, IsSound, planned_tensors, Text, Lettered}
 use Rattle.airy_math.specs.BelowDim.{BelowDimLaw}
 use Rattle.airy_math.specs.OwnTensors.{OwnTensorsLaw}
 use Rattle.airy_math.specs.Ranks.{PlanLaw}
-use Rattle.series_law.specs.Jobs.{JobUniquenessLaw}
+use Rattle.series_law.specs.Jobs.{JobSessionLaw}
 use Rattle.series_law.specs.SameTables.{SameTablesLaw}
 use Rattle.named_families.specs.Families.{Names}
 use Rattle.named_families.specs.declared.petersson.MakeErr.{MakeErr}
 use Rattle.named_families.specs.declared.petersson.MakeErr.TheVariants as make
-use Rattle.ask_seats.specs.Sessions.{Admitted}
-use Rattle.airy_math.specs.Jobs.{Text, Lettered}
 use Rattle.airy_math.specs.Tensors.{Tensors, SameEntries}
 use Rattle.airy_relations.specs.declared.verdict.Verdict.{Verdict}
 use Rattle.airy_relations.specs.declared.verdict.Verdict.TheVariants.{Closed, Differs, Over}
 use Rattle.airy_relations.specs.Verdicts.{verdict}
-use Rattle.std.specs.Prelude.{cond}
-use Rattle.airyrun.specs.Relations.{relations_report, of_relations, closed}
-use Rattle.airyrun.specs.Run.{AreClosed, LeadsToClosedSession}
-use Rattle.airyrun.specs.Ends.{EndsBy}
-use Rattle.airyrun.specs.Tables.{plan_report, cause_report, is_bound, has_letter, making_over, making_report, making_error, text_structure, ArePlanned}
-use Rattle.airyrun.specs.Sessions.{EndsReplies, answered, stored_session, session_of, session_report, LeadsToSession}
-use Rattle.airyrun.proofs.ReportLemmas.{told_cause, same_limit}
-use Rattle.airyrun.proofs.SessionLemmas.{same_replies, shown_law}
-use Rattle.airyrun.proofs.TextLemmas.{own_of}
+use Rattle.run_reports.specs.Relations.{relations_report, of_relations, closed}
+use Rattle.run_reports.specs.Structures.{AreClosed, has_letter, text_structure}
+use Rattle.airyrun.specs.Run.{LeadsToClosedSession}
+use Rattle.run_reports.specs.Ends.{EndsBy}
+use Rattle.run_reports.specs.Tables.{plan_report, cause_report, making_report}
+use Rattle.airyrun.specs.Tables.{is_bound, making_over, making_error, ArePlanned}
+use Rattle.airyrun.specs.Sessions.{EndsReplies, Wants, at_first, at_grow, answered, wanting_behind, stored_session, session_of, session_report, LeadsToSession}
+use Rattle.run_reports.proofs.ReportLemmas.{told_cause}
+use Rattle.run_reports.proofs.StoredLemmas.{same_limit}
+use Rattle.airyrun.proofs.SessionLemmas.{bounded, same_replies, shown_law}
+use Rattle.run_reports.proofs.TextLemmas.{own_of}
 
 module _ (s : Session) (X : ℕ) (lines : List Line) (before now : Taking) where
   pub spoken-ends : Spoken s X lines before.taken now.taken → now.faults ≡ before.faults → EndsReplies s X lines answered before now 0
@@ -58,7 +62,62 @@ module _ (s : Session) (X : ℕ) (lines : List Line) (before now : Taking) where
 
   -- a report of no reply
   pub other-ends : (whole : List Reply → Report) (other : Report) (result : ℕ) → (other ≡ whole []) ⊎ (other ≡ out_of_memory) → other.status ≢ 0 → Ends other before now result → EndsReplies s X lines whole before now result
-  other-ends whole other result e n h = record { replies = []; report = other; said = e; admitted = λ z. absurd (n z); ends = h }
+  other-ends whole other result e n h = record { replies = []; report = other; said = elim e [ inl f ↦ inl f | inr f ↦ inr (at_first f) ]; admitted = λ z. absurd (n z); ends = h }
+
+  -- memory was wanting at a `grow` behind a line
+  pub stopped-ends : (n : ℕ) → n ≢ 0 → StopsAtGrow s X lines before now n → EndsReplies s X lines answered before now 10
+  unfolding wanting_behind
+  stopped-ends n some h = by h.replies h.admitted h.written h.many
+    where
+      by : (replies : List Reply) → Admitted s X h.before replies → Appends before.taken now.taken (lines_text replies) → n ≡ length replies → EndsReplies s X lines answered before now 10
+      by [] admitted written many = absurd (some many)
+      by (reply ∷ replies) admitted written many = record {
+        replies = [];
+        report = wanting_behind (reply ∷ replies);
+        said = inr (at_grow h.before h.bound h.rest h.there (reply ∷ replies) admitted refl);
+        admitted = λ z. absurd (omega arith);
+        ends = record { later = omega (arith, h.steady); told = λ k. (refl, h.steady, written); cut = λ e. absurd (omega arith) };
+      }
+
+-- ---- a report behind a part of a run that wrote nothing
+
+appends-self : (t : Option (List ℕ)) → Appends t t []
+appends-self None = tt
+appends-self (Some xs) = sym (append-nil xs)
+
+appends-after : (old mid new : Option (List ℕ)) (bytes : List ℕ) → Appends old mid [] → Appends mid new bytes → Appends old new bytes
+appends-after None mid new bytes a b = tt
+appends-after (Some xs) None new bytes a b = absurd a
+appends-after (Some xs) (Some ys) None bytes a b = absurd b
+appends-after (Some xs) (Some ys) (Some zs) bytes a b = b ∙ ap (λ l. l ++ bytes) (a ∙ append-nil xs)
+
+ends-after : (report : Report) (old mid now : Taking) (result : ℕ) → Appends old.taken mid.taken [] → mid.faults ≡ old.faults → Ends report mid now result → Ends report old now result
+ends-after report old mid now result none steady e = record {
+  later = omega (arith, steady, e.later);
+  told = λ n. let t = e.told n in (t.0, t.1 ∙ steady, appends-after old.taken mid.taken now.taken report.bytes none t.2);
+  cut = λ n. let c = e.cut n in (subst (λ f. Rose f now.faults) steady c.0, (c.1.0, c.1.1, appends-after old.taken mid.taken now.taken _ none c.1.2));
+}
+
+-- where memory was wanting before any line, nothing was written
+none-written : (s : Session) (X : ℕ) (lines : List Line) (old new : Taking) → Fails s X lines old new (err.NoMemory 0) → Appends old.taken new.taken [] × (new.faults ≡ old.faults)
+unfolding lines_text
+none-written s X lines old new (inl h) = (subst (λ (t : Taking). Appends old.taken t.taken []) (sym h.0) (appends-self old.taken), ap (λ (t : Taking). t.faults) h.0)
+none-written s X lines old new (inr h) = (by h.replies h.written h.many, h.steady)
+  where
+    by : (replies : List Reply) → Appends old.taken new.taken (lines_text replies) → 0 ≡ length replies → Appends old.taken new.taken []
+    by [] written many = written
+    by (reply ∷ replies) written many = absurd (omega (arith, many))
+
+-- memory was wanting: before the first line, when the run says so, or at a `grow`
+pub memory-ends : (s : Session) (X : ℕ) (lines : List Line) (old mid now : Taking) (n result : ℕ) → Fails s X lines old mid (err.NoMemory n)
+    → (n ≡ 0 → Ends out_of_memory mid now result) → (n ≢ 0 → (now ≡ mid) × (result ≡ 10)) → EndsReplies s X lines answered old now result
+memory-ends s X lines old mid now zero result f first later =
+    let w = none-written s X lines old mid f in
+    other-ends s X lines old now answered out_of_memory result (inr refl) (λ z. omega arith) (ends-after out_of_memory old mid now result w.0 w.1 (first refl))
+memory-ends s X lines old mid now (suc n) result (inl h) first later = absurd (omega (arith, h.1))
+memory-ends s X lines old mid now (suc n) result (inr h) first later =
+    let k = later (λ e. omega (arith, e)) in
+    subst (λ r. EndsReplies s X lines answered old now r) (sym k.1) (subst (λ q. EndsReplies s X lines answered old q 10) (sym k.0) (stopped-ends s X lines old mid (suc n) (λ e. omega (arith, e)) h))
 
 cause_some : (why : PlanCause) → (cause_report why).status ≢ 0
 unfolding cause_report
@@ -88,39 +147,61 @@ plan-ends t X crew lines p before now result made within h =
 
 -- ---- of a structure
 
-session-bound : (s : Structure) (X : ℕ) (replies : List Reply) → is_bound X ≡ false → session_report s X replies ≡ bound_refused X
+session-bound : (s : Structure) (X Y : ℕ) (replies : List Reply) → is_bound Y ≡ false → session_report s X Y replies ≡ bound_refused Y
 unfolding session_report
-session-bound s X replies e = rw e refl
+session-bound s X Y replies e = rw e refl
 
-session-stood : (s : Structure) (t : Entries) (X : ℕ) (replies : List Reply) → PlanLaw → BelowDimLaw → is_bound X ≡ true → making_over s X ≡ None → ArePlanned t s X → session_report s X replies ≡ stored_session t X replies
+session-stood : (s : Structure) (t : Entries) (X Y : ℕ) (replies : List Reply) → PlanLaw → BelowDimLaw → is_bound Y ≡ true → making_over s Y ≡ None → ArePlanned t s Y → session_report s X Y replies ≡ stored_session t X replies
 unfolding session_report making_report stored_session
-session-stood s t X replies once below bounded made stored = rw (bounded, made) (ap (λ l. plan_report X l (answered replies)) (sym (same_limit t (planned_tensors s X) X once below stored.entries)))
+session-stood s t X Y replies once below bounded made stored = rw (bounded, made) (ap (λ l. plan_report X l (answered replies)) (sym (same_limit t (planned_tensors s Y) X once below stored.entries)))
+
+-- the bound that is reached is one
+pub reached_bound : (X top : ℕ) (lines : List Line) → IsReached X lines (Ok top) → is_bound (reach X lines) ≡ true
+reached_bound X top lines h = subst (λ n. is_bound n ≡ true) h.0 (bounded top (omega (arith, h.1, h.2)) h.3)
+
+-- what a session's replies rest on: laws, and a structure that is sound
+pub record SessionLaws : Type 0 where
+  pub shown : JobSessionLaw
+  pub once : PlanLaw
+  pub below : BelowDimLaw
+  pub tables : SameTablesLaw
 
 module _ (s : Structure) (X crew : ℕ) (lines : List Line) (before now : Taking) (result : ℕ) where
-  pub bound-leads : is_bound X ≡ false → Ends (bound_refused X) before now result → EndsBy (LeadsToSession s X crew lines (session_report s X)) before now result
-  bound-leads e h = (bound_refused X, record { replies = []; said = inl (sym (session-bound s X [] e)); admitted = λ z. absurd (omega arith); headline = λ z. absurd (omega arith) }, h)
+  abbrev Y : ℕ
+  Y = reach X lines
 
-  pub making-leads : (why : MakeErr) → is_bound X ≡ true → Names why (making_over s X) → Ends (making_error why) before now result → EndsBy (LeadsToSession s X crew lines (session_report s X)) before now result
+  pub bound-leads : is_bound Y ≡ false → Ends (bound_refused Y) before now result → EndsBy (LeadsToSession s X crew lines (session_report s X Y)) before now result
+  bound-leads e h = (bound_refused Y, record { replies = []; said = inl (sym (session-bound s X Y [] e)); admitted = λ z. absurd (omega arith); headline = λ z. absurd (omega arith) }, h)
+
+  pub making-leads : (why : MakeErr) → is_bound Y ≡ true → Names why (making_over s Y) → Ends (making_error why) before now result → EndsBy (LeadsToSession s X crew lines (session_report s X Y)) before now result
   unfolding making_error Names making_report session_report
   making-leads (make.Over k) bounded named h = (making_error (make.Over k), record { replies = []; said = inl (rw (bounded, named) refl); admitted = λ z. absurd (omega arith); headline = λ z. absurd (omega arith) }, h)
-  making-leads make.NoMemory bounded named h = (out_of_memory, record { replies = []; said = inr (bounded, refl); admitted = λ z. absurd (omega arith); headline = λ z. absurd (omega arith) }, h)
+  making-leads make.NoMemory bounded named h = (out_of_memory, record { replies = []; said = inr (bounded, at_first refl); admitted = λ z. absurd (omega arith); headline = λ z. absurd (omega arith) }, h)
 
-  pub stored-leads : (t : Entries) → JobUniquenessLaw → PlanLaw → BelowDimLaw → SameTablesLaw → IsSound s → 0 < X → is_bound X ≡ true → making_over s X ≡ None → ArePlanned t s X
-      → EndsReplies (record { tensors = looked_up t; letter = t.letter; crew = crew }) X lines (stored_session t X) before now result → EndsBy (LeadsToSession s X crew lines (session_report s X)) before now result
-  unfolding session_of
-  stored-leads t unique once below tables sound some bounded made stored h =
-      let admitted : h.report.status ≡ 0 → Admitted (session_of s X crew) X lines h.replies = λ z.
-      same_replies below tables (looked_up t) (planned_tensors s X) (has_letter s) X crew lines h.replies stored.entries
-      (subst (λ l. Admitted (record { tensors = looked_up t; letter = l; crew = crew }) X lines h.replies) stored.letter (h.admitted z)) in (
-        h.report,
-        record {
-          replies = h.replies;
-          said = elim h.said [ inl e ↦ inl (e ∙ sym (session-stood s t X h.replies once below bounded made stored)) | inr e ↦ inr (bounded, e) ];
-          admitted = admitted;
-          headline = λ z. shown_law unique s X crew lines h.replies sound some (admitted z);
-        },
-        h.ends,
-      )
+  module _ (t : Entries) (laws : SessionLaws) (stored : ArePlanned t s Y) where
+    -- replies that the stored tensors admit are admitted by the structure's
+    stood-admitted : (part : List Line) (replies : List Reply) → Admitted (record { tensors = looked_up t; letter = t.letter; crew = crew }) X part replies → Admitted (session_of s Y crew) X part replies
+    unfolding session_of
+    stood-admitted part replies a =
+        same_replies laws.once laws.below laws.tables (looked_up t) (planned_tensors s Y) (has_letter s) X crew part replies stored.entries
+        (subst (λ l. Admitted (record { tensors = looked_up t; letter = l; crew = crew }) X part replies) stored.letter a)
+
+    stood-wants : (report : Report) → Wants (record { tensors = looked_up t; letter = t.letter; crew = crew }) X lines report → Wants (session_of s Y crew) X lines report
+    stood-wants report (at_first e) = at_first e
+    stood-wants report (at_grow part Z rest there replies a e) = at_grow part Z rest there replies (stood-admitted part replies a) e
+
+    pub stored-leads : IsSound s → 0 < X → Rises X lines → is_bound Y ≡ true → making_over s Y ≡ None
+        → EndsReplies (record { tensors = looked_up t; letter = t.letter; crew = crew }) X lines (stored_session t X) before now result → EndsBy (LeadsToSession s X crew lines (session_report s X Y)) before now result
+    stored-leads sound some rise bounded made h = (
+      h.report,
+      record {
+        replies = h.replies;
+        said = elim h.said [ inl e ↦ inl (e ∙ sym (session-stood s t X Y h.replies laws.once laws.below bounded made stored)) | inr e ↦ inr (bounded, stood-wants h.report e) ];
+        admitted = λ z. stood-admitted lines h.replies (h.admitted z);
+        headline = λ z. shown_law laws.shown s X Y crew lines h.replies sound some rise (omega arith) (stood-admitted lines h.replies (h.admitted z));
+      },
+      h.ends,
+    )
 
 -- ---- of a text
 
@@ -144,8 +225,11 @@ text-made t X = by t.letter
     by false = refl
 
 module _ (t : Entries) (X crew : ℕ) (lines : List Line) (before now : Taking) (result : ℕ) (own : OwnTensorsLaw) where
+  abbrev Z : ℕ
+  Z = reach X lines
+
   -- the session, where the relations hold
-  pub closed-leads : EndsBy (LeadsToSession (text_structure t) X crew lines (session_report (text_structure t) X)) before now result → Closed ≡ verdict (looked_up t) t.dim → AreClosed t
+  pub closed-leads : EndsBy (LeadsToSession (text_structure t) X crew lines (session_report (text_structure t) X Z)) before now result → Closed ≡ verdict (looked_up t) t.dim → AreClosed t
       → EndsBy (LeadsToClosedSession X crew lines t) before now result
   unfolding relations_report of_relations
   closed-leads e found close = (
@@ -153,21 +237,21 @@ module _ (t : Entries) (X crew : ℕ) (lines : List Line) (before now : Taking) 
     record {
       session = record {
         replies = e.1.replies;
-        said = elim e.1.said [ inl q ↦ inl (q ∙ ap (λ v. relations_report v (session_report (text_structure t) X e.1.replies)) found) | inr q ↦ inr q ];
+        said = elim e.1.said [ inl q ↦ inl (q ∙ ap (λ v. relations_report v (session_report (text_structure t) X Z e.1.replies)) found) | inr q ↦ inr q ];
         admitted = e.1.admitted;
         headline = e.1.headline;
       };
-      own = own_of own X t;
+      own = λ n. own_of own n t;
       accepted = λ h. close;
     },
     e.2,
   )
 
   -- a report that no reply led to
-  no_reply : (report : Report) → report ≡ of_relations t (session_report (text_structure t) X []) → report.status ≢ 0 → Ends report before now result → EndsBy (LeadsToClosedSession X crew lines t) before now result
+  no_reply : (report : Report) → report ≡ of_relations t (session_report (text_structure t) X Z []) → report.status ≢ 0 → Ends report before now result → EndsBy (LeadsToClosedSession X crew lines t) before now result
   no_reply report said some e = (
     report,
-    record { session = record { replies = []; said = inl said; admitted = λ h. absurd (some h); headline = λ h. absurd (some h) }; own = own_of own X t; accepted = λ h. absurd (some h) },
+    record { session = record { replies = []; said = inl said; admitted = λ h. absurd (some h); headline = λ h. absurd (some h) }; own = λ n. own_of own n t; accepted = λ h. absurd (some h) },
     e,
   )
 
@@ -176,6 +260,6 @@ module _ (t : Entries) (X crew : ℕ) (lines : List Line) (before now : Taking) 
   unfolding relations_report of_relations
   fails-leads Closed found fails e = absurd (fails refl)
   fails-leads (Differs rel place left right) found fails e =
-      no_reply (relations_report (Differs rel place left right) closed) (ap (λ v. relations_report v (session_report (text_structure t) X [])) found) (λ h. omega arith) e
+      no_reply (relations_report (Differs rel place left right) closed) (ap (λ v. relations_report v (session_report (text_structure t) X Z [])) found) (λ h. omega arith) e
   fails-leads (Over rel place) found fails e =
-      no_reply (relations_report (Over rel place) closed) (ap (λ v. relations_report v (session_report (text_structure t) X [])) found) (λ h. omega arith) e
+      no_reply (relations_report (Over rel place) closed) (ap (λ v. relations_report v (session_report (text_structure t) X Z [])) found) (λ h. omega arith) e

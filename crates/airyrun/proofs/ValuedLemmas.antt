@@ -23,12 +23,14 @@ use Rattle.series_law.specs.SameTables.{SameTablesLaw}
 use Rattle.series_law.proofs.TableRanks.{length-outcomes}
 use Rattle.sparse_tensor.specs.Entries.{Entries, looked_up}
 use Rattle.airy_io.specs.Causes.{Taking}
-use Rattle.airyrun.specs.Report.{Report, Ends, bound_refused, out_of_memory}
-use Rattle.airyrun.specs.Ends.{EndsBy}
-use Rattle.airyrun.specs.Tables.{ArePlanned, is_bound, making_over, making_report, making_error, over_at, plan_report, cause_report}
+use Rattle.run_reports.specs.Report.{Report, Ends, bound_refused, out_of_memory}
+use Rattle.run_reports.specs.Ends.{EndsBy}
+use Rattle.run_reports.specs.Tables.{making_report, over_at, plan_report, cause_report}
+use Rattle.airyrun.specs.Tables.{ArePlanned, is_bound, making_over, making_error}
 use Rattle.airyrun.specs.Numbers.{first_report, valued_report}
 use Rattle.airyrun.specs.Valued.{IsFilled, IsStored, IsValued, Refuses, plan_valued, stored_valued}
-use Rattle.airyrun.proofs.ReportLemmas.{not_whole, same_limit}
+use Rattle.run_reports.proofs.ReportLemmas.{not_whole}
+use Rattle.run_reports.proofs.StoredLemmas.{same_limit}
 
 pub same_full : (t : Entries) (T : Tensors) (X : ℕ) → SameTablesLaw → SameEntries (looked_up t) T → full_table (looked_up t) X ≡ full_table T X
 unfolding full_table

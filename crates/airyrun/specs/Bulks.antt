@@ -1,18 +1,19 @@
 -- What is printed of a large structure that is made from a number, and what it is of every solution.
-use Rattle.std.specs.Prelude.{◌≡◌, ◌⊎◌, ℕ, IsTrue, false, cond, codes, decimal, Option, Some, None}
+use Rattle.std.specs.Prelude.{◌≡◌, ◌≢◌, ◌⊎◌, ℕ, IsTrue, false, cond, codes, decimal, Option, Some, None}
 use Rattle.airy_math.specs.Jobs.{Structure, Bulk}
 use Rattle.airy_math.specs.Relations.{Close}
 use Rattle.airy_relations.specs.Verdicts.{verdict}
 use Rattle.bulk_tensors.specs.Bulk.{bulk, bulk_refusal}
 use Rattle.bulk_tensors.specs.declared.full_tensors.BulkErr.{BulkErr}
 use Rattle.bulk_tensors.specs.declared.full_tensors.BulkErr.TheVariants as error
-use Rattle.airyrun.specs.Report.{Report, refusal, bound_refused, out_of_memory}
-use Rattle.airyrun.specs.Relations.{relations_report}
-use Rattle.airyrun.specs.Tables.{is_bound, table_report, whole_table}
+use Rattle.run_reports.specs.Report.{Report, refusal, bound_refused, out_of_memory}
+use Rattle.run_reports.specs.Relations.{relations_report}
+use Rattle.airyrun.specs.Tables.{is_bound, table_report}
+use Rattle.run_reports.specs.Structures.{whole_table}
 use Rattle.sparse_tensor.specs.Entries.{Entries, looked_up}
-use Rattle.airyrun.specs.Forms.{summed, formed_stored}
-use Rattle.airyrun.specs.declared.tables.Form.TheVariants.{Summary}
-use Rattle.airyrun.specs.Headline.{Headline, HasTwoOrders}
+use Rattle.run_reports.specs.Forms.{summed, formed_stored}
+use Rattle.run_reports.specs.declared.tables.Form.TheVariants.{Summary}
+use Rattle.run_reports.specs.Headline.{Headline}
 
 -- the structure of a seed and a dim
 abbrev pub bulk_structure : ℕ → ℕ → Structure
@@ -42,9 +43,9 @@ unfoldable pub closed_summary : Entries → ℕ → Report
 closed_summary t X = relations_report (verdict (looked_up t) t.dim) (formed_stored Summary t X)
 
 -- What `bulk` leads to: its report, or, at a bound within its limits, want of memory. Where the summary is printed the relations hold, and the
--- table that it is of has the headline.
+-- table that it is of has the headline. Where they hold, no two index orders differ: so it never answers 7.
 pub record LeadsToBulk (seed dim X : ℕ) (report : Report) : Type 0 where
   pub said : (report ≡ bulk_report seed dim X) ⊎ (IsTrue (is_bound X) × (report ≡ out_of_memory))
   pub headline : report.status ≡ 0 → Headline (bulk_structure seed dim) X (whole_table (bulk_structure seed dim) X)
   pub accepted : report.status ≡ 0 → Close (bulk seed dim) dim
-  pub unsolvable : report.status ≡ 7 → HasTwoOrders (bulk_structure seed dim) X report.bytes
+  pub never : report.status ≢ 7

@@ -1,6 +1,5 @@
 -- What the answers of a run come to: the exact cause of each status, and completeness.
-use Rattle.std.specs.Prelude.{◌≡◌, ◌≢◌, ◌⊎◌, ℕ, ◌≤◌, true, false, cond, IsTrue, List, length, nat_le, Some, None}
-use Rattle.std.specs.Io.KnownBytes.{Appends}
+use Rattle.std.specs.Prelude.{◌≡◌, ◌≢◌, ◌⊎◌, ℕ, ◌≤◌, true, false, cond, IsTrue, List, Some, None}
 use Rattle.airy_io.specs.Causes.{Rose}
 use Rattle.airy_math.specs.Keys.{Key}
 use Rattle.airy_math.specs.Rational.{ℚ}
@@ -11,30 +10,27 @@ use Rattle.airy_math.specs.Jobs.{Structure, planned_tensors}
 use Rattle.amp_plan.specs.Limits.{Within, limit}
 use Rattle.series_law.specs.Check.{Solution, NotValue, Overflow, Orders}
 use Rattle.sparse_tensor.specs.Entries.{Entries}
-use Rattle.tensor_text.specs.Grammar.{TextReading, Read}
+use Rattle.tensor_text.specs.Grammar.{Read}
 use Rattle.tensor_text.specs.Grammar as grammar
 use Rattle.ask_seats.specs.Replies.{Reply}
 use Rattle.ask_seats.specs.Sessions.{Admitted}
 use Rattle.command_words.specs.Words.{Reading, Named, Text, Table, Session, Probe, Relations, Number, Volume, Bulk, Refused}
+use Rattle.command_words.specs.Bounds.{reach}
 use Rattle.command_words.specs.Options.{reading_of}
-use Rattle.airyrun.specs.Report.{Report, word_refused, bound_refused, out_of_memory}
-use Rattle.airyrun.specs.Texts.{line_refused, text_too_long}
-use Rattle.airyrun.specs.Relations.{family_relations, of_relations, text_relations}
-use Rattle.airyrun.specs.Tables.{is_bound, structure_of, text_structure, making_over, verdict_of, pivot_text, over_at, orders_differ, table_report, whole_table}
+use Rattle.run_reports.specs.Report.{Report, word_refused, bound_refused, out_of_memory}
+use Rattle.run_reports.specs.Leads.{of_text}
+use Rattle.run_reports.specs.Runs.{Gives, Run}
+use Rattle.run_reports.specs.Relations.{of_relations, text_relations}
+use Rattle.airyrun.specs.Relations.{family_relations}
+use Rattle.run_reports.specs.Tables.{verdict_of, pivot_text, over_at, orders_differ}
+use Rattle.airyrun.specs.Tables.{is_bound, structure_of, making_over, table_report}
+use Rattle.run_reports.specs.Structures.{text_structure, whole_table}
 use Rattle.airyrun.specs.Sessions.{session_of, session_report}
 use Rattle.airyrun.specs.Numbers.{euler_of, number_report, takes_volume, volume_report}
 use Rattle.airyrun.specs.Bulks.{bulk_report}
-use Rattle.airyrun.specs.Run.{Run}
+use Rattle.airyrun.specs.Run.{Leads}
 
 -- ---- what is meant
-
--- what the reading of a text leads to, by what its entries lead to
-unfoldable pub of_reading : (Entries → Report) → TextReading → Report
-of_reading next (grammar.Refused n kind) = line_refused n kind
-of_reading next (Read t) = next t
-
-unfoldable pub of_text : (Entries → Report) → List ℕ → Report
-of_text next text = cond (nat_le (length text) 1048576) (of_reading next (grammar.reading_of text)) text_too_long
 
 -- what the entries of a text lead to: with their relations checked first, and without them
 unfoldable pub closed_table : ℕ → Entries → Report
@@ -43,8 +39,8 @@ closed_table X t = of_relations t (table_report (text_structure t) X)
 unfoldable pub probed_table : ℕ → Entries → Report
 probed_table X t = table_report (text_structure t) X
 
-unfoldable pub closed_session : ℕ → List Reply → Entries → Report
-closed_session X replies t = of_relations t (session_report (text_structure t) X replies)
+unfoldable pub closed_session : ℕ → ℕ → List Reply → Entries → Report
+closed_session X Y replies t = of_relations t (session_report (text_structure t) X Y replies)
 
 -- What the words and the text of the source lead to, where neither end fails and memory isn't wanting: the line of the first step that
 -- refuses, or the whole output. Of a session it is what these replies lead to; no other job has replies.
@@ -52,8 +48,9 @@ unfoldable pub meant : Reading → List ℕ → List Reply → Report
 meant (Refused place) text replies = word_refused place
 meant (Table (Named family) X workers) text replies = table_report (structure_of family) X
 meant (Table Text X workers) text replies = cond (is_bound X) (of_text (closed_table X) text) (bound_refused X)
-meant (Session (Named family) X workers lines) text replies = session_report (structure_of family) X replies
-meant (Session Text X workers lines) text replies = cond (is_bound X) (of_text (closed_session X replies) text) (bound_refused X)
+meant (Session (Named family) X workers lines) text replies = session_report (structure_of family) X (reach X lines) replies
+meant (Session Text X workers lines) text replies =
+    cond (is_bound (reach X lines)) (of_text (closed_session X (reach X lines) replies) text) (bound_refused (reach X lines))
 meant (Probe X workers) text replies = cond (is_bound X) (of_text (probed_table X) text) (bound_refused X)
 meant (Relations N (Named family)) text replies = family_relations family N
 meant (Relations N Text) text replies = of_text (text_relations N) text
@@ -63,9 +60,10 @@ meant (Bulk seed dim X workers) text replies = bulk_report seed dim X
 
 -- the replies that a session may give; a job that is none may have any, and its report does not look at them
 unfoldable pub MayReply : Reading → List ℕ → List Reply → Type 0
-MayReply (Session (Named family) X workers lines) text replies = Admitted (session_of (structure_of family) X workers) X lines replies
+MayReply (Session (Named family) X workers lines) text replies =
+    Admitted (session_of (structure_of family) (reach X lines) workers) X lines replies
 MayReply (Session Text X workers lines) text replies =
-    (t : Entries) → grammar.reading_of text ≡ Read t → Admitted (session_of (text_structure t) X workers) X lines replies
+    (t : Entries) → grammar.reading_of text ≡ Read t → Admitted (session_of (text_structure t) (reach X lines) workers) X lines replies
 MayReply (Refused place) text replies = Unit
 MayReply (Table kind X workers) text replies = Unit
 MayReply (Probe X workers) text replies = Unit
@@ -101,10 +99,6 @@ OneReportLaw =
 
 -- ---- the causes
 
--- the status and the bytes are those of the report
-abbrev pub Gives : Run → Report → Type 0
-Gives run report = (run.status ≡ report.status) × Appends run.sink_before.taken run.sink_after.taken report.bytes
-
 -- There is a text, which is the source's where it tells its bytes, and the status and the bytes are those of a report that the words
 -- and this text may lead to. A job that reads no text does not look at it.
 pub record GivesMeant (run : Run) : Type 0 where
@@ -118,7 +112,7 @@ pub record GivesMeant (run : Run) : Type 0 where
 abbrev pub TakesMemory : Reading → Type 0
 TakesMemory (Refused place) = ⊥
 TakesMemory (Table kind X workers) = IsTrue (is_bound X)
-TakesMemory (Session kind X workers lines) = IsTrue (is_bound X)
+TakesMemory (Session kind X workers lines) = IsTrue (is_bound (reach X lines))
 TakesMemory (Probe X workers) = IsTrue (is_bound X)
 TakesMemory (Relations N kind) = Unit {0}
 TakesMemory (Number family key) = IsTrue (is_bound (euler_of key))
@@ -139,10 +133,15 @@ pub record HasCauses (run : Run) : Type 0 where
   -- every other status comes with its bytes exactly where they are what is meant; of a session, what is meant with replies that it may give
   pub of_job : run.status ≢ 8 → run.status ≢ 9 → run.status ≢ 10 → GivesMeant run
 
+-- A report of want of memory: its own line; or, of a session, a report that it leads to with status 10, by the lines before a `grow`.
+abbrev pub IsWanting : Reading → Run → Report → Type 0
+IsWanting reading run report = (report ≡ out_of_memory) ⊎ (IsSession reading × Leads reading run report × (report.status ≡ 10))
+
 -- Completeness: where neither end fails, the run gives what is meant, or, behind the words and the bound, memory is wanting.
 abbrev pub IsComplete : Run → Type 0
 IsComplete run = (Rose run.source_before.faults run.source_after.faults → ⊥) → (Rose run.sink_before.faults run.sink_after.faults → ⊥)
-    → GivesMeant run ⊎ (TakesMemory (reading_of run.words) × Gives run out_of_memory)
+    → GivesMeant run
+    ⊎ (TakesMemory (reading_of run.words) × ((report : Report) × IsWanting (reading_of run.words) run report × Gives run report))
 
 -- ---- the statuses of a table
 

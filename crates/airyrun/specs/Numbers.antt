@@ -25,8 +25,9 @@ use Rattle.correlators.specs.Divisions.{over_odd_factorials}
 use Rattle.correlators.specs.Laws.{coefficient_in}
 use Rattle.correlators.specs.declared.refusals.CorrErr.{CorrErr}
 use Rattle.correlators.specs.declared.refusals.CorrErr.TheVariants as refused
-use Rattle.airyrun.specs.Report.{Report, refusal, bound_refused, out_of_memory}
-use Rattle.airyrun.specs.Tables.{is_bound, making_over, making_report, plan_report, over_at}
+use Rattle.run_reports.specs.Report.{Report, refusal, bound_refused, out_of_memory}
+use Rattle.run_reports.specs.Tables.{making_report, plan_report, over_at}
+use Rattle.airyrun.specs.Tables.{is_bound, making_over}
 
 -- ---- the table that a number is read off
 

@@ -7,8 +7,9 @@ use Rattle.amp_plan.specs.Plans.{Planning, keys_of, tensors_of}
 use Rattle.amp_terms.specs.declared.Outcome.{Outcome}
 use Rattle.amp_terms.specs.Tables.{full_table, first_without}
 use Rattle.sparse_tensor.specs.Entries.{Entries, looked_up}
-use Rattle.airyrun.specs.Report.{Report, out_of_memory}
-use Rattle.airyrun.specs.Tables.{ArePlanned, plan_report}
+use Rattle.run_reports.specs.Report.{Report, out_of_memory}
+use Rattle.run_reports.specs.Tables.{plan_report}
+use Rattle.airyrun.specs.Tables.{ArePlanned}
 use Rattle.airyrun.specs.Numbers.{first_report, valued_report}
 
 -- what comes next where each key of a plan has a Value

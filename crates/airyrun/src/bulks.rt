@@ -1,19 +1,18 @@
 ghost use Rattle.std.specs.Prelude.{◌≡◌, ◌<◌, ◌≤◌, ◌^◌, IsTrue};
 ghost use Rattle.sparse_tensor.specs.Entries.{looked_up};
-ghost use Rattle.airyrun.specs.Report.{Ends, EndsOrWants};
-ghost use Rattle.airyrun.specs.Ends.{EndsBy};
-ghost use Rattle.airyrun.specs.Relations.{IsVerdict};
+ghost use Rattle.run_reports.specs.Report.{Ends, EndsOrWants};
+ghost use Rattle.run_reports.specs.Ends.{EndsBy};
+ghost use Rattle.run_reports.specs.Relations.{IsVerdict};
 ghost use Rattle.airyrun.specs.Bulks.{LeadsToBulk, bulk_error, closed_summary};
 
-use crate::bounds::is_bound;
-use crate::relations::say_verdict;
-use crate::report::{refuse_bound, refuse_memory, refuse_number};
-use crate::tables::{Form, print_stored};
+use airy_exists::no_orders;
 use airy_io::Sink;
 use airy_math::{below_dim, planned_once};
 use airy_relations::{Verdict, check, same_verdict};
 use bulk_tensors::{BulkErr, bulk_tensors};
+use command_words::is_bound;
 use fill_crew::Gate;
+use run_reports::{Form, print_stored, refuse_bound, refuse_memory, refuse_number, say_verdict};
 use series_law::{job_checked, job_uniqueness, same_tables};
 use sparse_tensor::Tensors;
 use std::alloc::Global;
@@ -47,6 +46,7 @@ pub(crate) fn bulk<R: Threads + Sync, W: Sink, G: Gate + Sync>(
     below_dim();
     same_tables();
     same_verdict();
+    no_orders();
     match bulk_tensors(alloc, seed, dim) {
         Ok(tensors) => print_bulk(rt, alloc, tensors, bound as u8, workers, gate, out),
         Err(refusal) => refuse_bulk(out, refusal),

@@ -3,23 +3,22 @@ ghost use Rattle.airy_math.specs.Tensors.{SameEntries};
 ghost use Rattle.sparse_tensor.specs.Entries.{looked_up};
 ghost use Rattle.named_families.specs.Families.{Names};
 ghost use Rattle.command_words.specs.Asked.{IsPlaces};
-ghost use Rattle.airyrun.specs.Report.{Ends, EndsOrWants};
+ghost use Rattle.run_reports.specs.Report.{Ends, EndsOrWants};
 ghost use Rattle.airyrun.specs.Relations.{family_over, family_tensors};
-ghost use Rattle.airyrun.specs.Ends.{EndsBy};
+ghost use Rattle.run_reports.specs.Ends.{EndsBy};
 ghost use Rattle.airyrun.specs.Run.{LeadsToFamilyRelations};
-ghost use Rattle.airyrun.specs.Tables.{ArePlanned, EndsTable, has_letter, is_bound, making_error, making_over, structure_of, table_report};
+ghost use Rattle.airyrun.specs.Tables.{ArePlanned, EndsTable, is_bound, making_error, making_over, structure_of, table_report};
+ghost use Rattle.run_reports.specs.Structures.{has_letter};
 
-use crate::bounds::is_bound;
-use crate::relations::say_relations;
-use crate::report::{refuse_bound, refuse_memory, refuse_number};
-use crate::tables::{Form, print_stored};
 use airy_io::Sink;
 use airy_math::{Family, below_dim, planned_once};
 use airy_relations::same_verdict;
+use command_words::is_bound;
 use fill_crew::Gate;
 use named_families::{
     MakeErr, bgw, bgw_closes, bgw_cut, wk, wk_closes, wk_cut, wp, wp_closes, wp_cut,
 };
+use run_reports::{Form, print_stored, refuse_bound, refuse_memory, refuse_number, say_relations};
 use series_law::same_tables;
 use sparse_tensor::Tensors;
 use std::alloc::Global;
@@ -71,7 +70,7 @@ fn made_table<R: Threads + Sync, W: Sink, G: Gate + Sync>(
 }
 
 /// The tensors of a named structure that its table up to the bound needs.
-#[tactic(auto, unfolding(crate::specs::Tables::making_over, crate::specs::Tables::structure_of, crate::specs::Tables::has_letter, airy_math::specs::Jobs::planned_tensors, named_families::specs::Families::Names))]
+#[tactic(auto, unfolding(crate::specs::Tables::making_over, crate::specs::Tables::structure_of, run_reports::specs::Structures::has_letter, airy_math::specs::Jobs::planned_tensors, named_families::specs::Families::Names))]
 pub(crate) fn tensors_of(alloc: Global, family: Family, bound: u8) -> Result<Tensors, MakeErr>
     requires some { 0 < bound }
     requires most { bound ≤ 24 }
@@ -109,7 +108,7 @@ pub(crate) fn relations_of_family<W: Sink>(
 
 /// The tensors of a named structure with all indices that the relations in the places below N read: up to 2N, and for wp with the
 /// exponents up to 2N + 1.
-#[tactic(auto, unfolding(crate::specs::Relations::family_tensors, crate::specs::Relations::family_over, crate::specs::Tables::structure_of, crate::specs::Tables::has_letter, named_families::specs::Families::Names))]
+#[tactic(auto, unfolding(crate::specs::Relations::family_tensors, crate::specs::Relations::family_over, crate::specs::Tables::structure_of, run_reports::specs::Structures::has_letter, named_families::specs::Families::Names))]
 fn tensors_below(alloc: Global, places: u8, family: Family) -> Result<Tensors, MakeErr>
     requires { IsPlaces places }
     ensures entries { IfOk result (λ t. SameEntries (looked_up t) (family_tensors family places)) }
@@ -126,7 +125,7 @@ fn tensors_below(alloc: Global, places: u8, family: Family) -> Result<Tensors, M
 }
 
 /// Says why the tensors of a named structure aren't made.
-#[tactic(auto, unfolding(crate::specs::Tables::making_error, crate::specs::Tables::making_report))]
+#[tactic(auto, unfolding(crate::specs::Tables::making_error, run_reports::specs::Tables::making_report))]
 pub(crate) fn refuse_making<W: Sink>(out: &mut W, refusal: MakeErr) -> u8
     ensures { Ends (making_error refusal) (W.state out.old) (W.state out.new) result }
 {

@@ -9,7 +9,7 @@ use std::test::Fail;
 use std::thread::Threads;
 
 /// Each command, and a refusal of each status.
-const WRITERS: [Case; 16] = [
+const WRITERS: [Case; 17] = [
     ("table wk 1", b"", 0, b"0,3 [0 0 0] 1\n1,1 [1] 1/8\n"),
     ("table wk 3", b"", 0, WK_3),
     ("table - 3 --workers 0", ONE_INDEX, 0, ONE_INDEX_3),
@@ -32,6 +32,12 @@ const WRITERS: [Case; 16] = [
         LARGE,
         0,
         b"over\nrests on 0,4 [0 0 0 0]\nno such index\n",
+    ),
+    (
+        "session wk 1 --workers=0 ask:1:1 grow:2 finish ask:0:0,0,0,1",
+        b"",
+        0,
+        b"not yet\ngrown to 2\n3\n",
     ),
     ("table wk 0", b"", 5, b"refused: bound 0\n"),
     ("table", b"", 2, b"refused: word 2\n"),

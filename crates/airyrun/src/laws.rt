@@ -17,7 +17,7 @@ pub fn meant_is_one()
 pub fn session_shown()
     ensures { SessionShownLaw }
 {
-    series_law::job_uniqueness();
+    series_law::job_session();
 }
 
 /// A law: tensors with the same entries at indices below dim admit the same replies.
@@ -25,6 +25,7 @@ pub fn session_shown()
 pub fn same_replies()
     ensures { SameRepliesLaw }
 {
+    airy_math::planned_once();
     airy_math::below_dim();
     series_law::same_tables();
 }

@@ -3,7 +3,6 @@
 
 ghost use Rattle.std.specs.Prelude.{◌≡◌, ◌⊎◌, IfErr};
 
-mod bounds;
 mod bulks;
 mod families;
 #[cfg(test)]
@@ -16,9 +15,6 @@ mod laws;
 #[cfg(test)]
 mod number_tests;
 mod numbers;
-mod pivots;
-mod relations;
-mod report;
 #[cfg(test)]
 mod row_tests;
 #[cfg(test)]
@@ -27,7 +23,6 @@ mod serve_tests;
 mod session_tests;
 #[cfg(test)]
 mod shape_tests;
-mod tables;
 mod talk;
 #[cfg(test)]
 mod tests;

@@ -1,23 +1,23 @@
 ghost use Rattle.std.specs.Prelude.{◌≡◌, ◌≢◌, ◌<◌, ◌≤◌, ◌++◌, IsTrue, codes};
 ghost use Rattle.airy_math.specs.declared.Family.TheVariants.{Wp};
 ghost use Rattle.frac128.specs.Fraction.{fraction_text};
-ghost use Rattle.airyrun.specs.Report.{Ends, Report};
-ghost use Rattle.airyrun.specs.Ends.{EndsBy};
+ghost use Rattle.run_reports.specs.Report.{Ends, Report};
+ghost use Rattle.run_reports.specs.Ends.{EndsBy};
 ghost use Rattle.airyrun.specs.Numbers.{IsQuotient, LeadsToNumber, euler_of};
 ghost use Rattle.airyrun.specs.Valued.{IsValued};
 ghost use Rattle.airyrun.specs.Tables.{is_bound, structure_of};
 
-use crate::bounds::is_bound;
-use crate::report::{put_fraction, refuse_bound, refuse_key, say};
 use crate::valued::valued_table;
 use airy_index::Key;
 use airy_io::{LineText, Sink};
 use airy_math::{Family, below_dim, planned_once};
 use amp_plan::Plan;
 use amp_terms::Table;
+use command_words::is_bound;
 use correlators::number;
 use frac128::Frac;
 use intersection_law::{norbury, witten};
+use run_reports::{put_fraction, refuse_bound, refuse_key, say};
 use series_law::{job_uniqueness, same_tables};
 use std::alloc::Global;
 

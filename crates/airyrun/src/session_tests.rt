@@ -50,6 +50,67 @@ const SESSIONS: [Case; 9] = [
     ("session wk 25 finish", b"", 5, b"refused: bound 25\n"),
 ];
 
+/// A growth that is refused: the plan of a text with 32 indices has too many keys up to 3.
+const REFUSED_GROWTH: [Case; 1] = [(
+    "session - 2 --workers=0 grow:3 ask:1:0",
+    b"airy 1\ndim 32\nend\n",
+    0,
+    b"not grown: cells at level 3\nnot yet\n",
+)];
+
+/// Sessions that raise their bound, or are refused for one.
+const GROWTHS: [Case; 9] = [
+    (
+        "session wk 1 --workers=0 finish ask:0:0,0,0,1 grow:2 ask:0:0,0,0 ask:0:0,0,0,1 finish ask:0:0,0,0,1",
+        b"",
+        0,
+        b"beyond\ngrown to 2\n1\nnot yet\n3\n",
+    ),
+    (
+        "session wk 1 --workers=3 grow:02 grow:3 ask:1:9 finish ask:2:4 grow:5 finish ask:1:2,1,0",
+        b"",
+        0,
+        b"grown to 2\ngrown to 3\nzero\n105/128\ngrown to 5\n15/4\n",
+    ),
+    (
+        "session wp 1 finish ask:2:0 grow:3 finish ask:2:0 ask:2:4",
+        b"",
+        0,
+        b"beyond\ngrown to 3\n29/192 p^4\n105/128\n",
+    ),
+    (
+        "session - 1 grow:3 finish ask:0:0,0,0,0,0 grow:24",
+        LARGE,
+        0,
+        b"grown to 3\nrests on 0,4 [0 0 0 0]\ngrown to 24\n",
+    ),
+    ("session wk 2 grow:2", b"", 2, b"refused: word 4\n"),
+    ("session wk 2 grow:25", b"", 5, b"refused: bound 25\n"),
+    ("session wk 0 grow:25 finish", b"", 5, b"refused: bound 0\n"),
+    (
+        "session wk 2 finish grow:24 grow:30 grow:999999999",
+        b"",
+        5,
+        b"refused: bound 30\n",
+    ),
+    (
+        "session - 1 grow:25 finish",
+        b"no text",
+        5,
+        b"refused: bound 25\n",
+    ),
+];
+
+#[test]
+fn a_growth_that_is_refused(rt: HostRuntime) -> Result<(), Fail> {
+    assert_told(&rt, rt.alloc(), &REFUSED_GROWTH)
+}
+
+#[test]
+fn sessions_that_grow(rt: HostRuntime) -> Result<(), Fail> {
+    assert_told(&rt, rt.alloc(), &GROWTHS)
+}
+
 #[test]
 fn sessions_that_are_determined(rt: HostRuntime) -> Result<(), Fail> {
     assert_told(&rt, rt.alloc(), &SESSIONS)

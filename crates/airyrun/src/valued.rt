@@ -1,16 +1,15 @@
 ghost use Rattle.std.specs.Prelude.{◌≡◌, ◌<◌, ◌≤◌, IsTrue, IfErr, IfOk, OnOk};
-ghost use Rattle.airyrun.specs.Ends.{EndsBy};
+ghost use Rattle.run_reports.specs.Ends.{EndsBy};
 ghost use Rattle.airyrun.specs.Numbers.{valued_report};
 ghost use Rattle.airyrun.specs.Valued.{IsFilled, IsStored, IsValued, Refuses, plan_valued, stored_valued};
 ghost use Rattle.airyrun.specs.Tables.{is_bound, structure_of};
 
 use crate::families::{refuse_making, tensors_of};
-use crate::report::{refuse_key, refuse_memory};
-use crate::tables::refuse_plan;
 use airy_io::Sink;
 use airy_math::{Family, below_dim, planned_once};
 use amp_plan::Plan;
 use amp_terms::{Table, one_thread};
+use run_reports::{refuse_key, refuse_memory, refuse_plan};
 use series_law::same_tables;
 use sparse_tensor::Tensors;
 use std::alloc::Global;

@@ -3,20 +3,20 @@ ghost use Rattle.airy_io.specs.Causes.{Writes};
 ghost use Rattle.airy_math.specs.Keys.{euler};
 ghost use Rattle.airy_math.specs.Jobs.{Wp};
 ghost use Rattle.correlators.specs.Volumes.{part_of, parts_of};
-ghost use Rattle.airyrun.specs.Report.{Ends, EndsOrWants, Report};
-ghost use Rattle.airyrun.specs.Ends.{EndsBy, EndsByOrWants};
+ghost use Rattle.run_reports.specs.Report.{Ends, EndsOrWants, Report};
+ghost use Rattle.run_reports.specs.Ends.{EndsBy, EndsByOrWants};
 ghost use Rattle.airyrun.specs.Numbers.{IsDivision, IsQuotients, LeadsToVolume, joint, length_text, lengths_text, part_text, parts_text, takes_volume, terms_refused, volume_text};
 ghost use Rattle.airyrun.specs.Valued.{IsValued};
 
-use crate::bounds::is_bound;
-use crate::report::{refuse, refuse_bound, refuse_key, refuse_memory};
 use crate::valued::valued_table;
 use airy_io::{Failed, LineText, Sink, write_all};
 use airy_math::{Family, below_dim, planned_once};
 use amp_plan::Plan;
 use amp_terms::{Table, write_value};
+use command_words::is_bound;
 use correlators::{CorrErr, Term, counted, volume};
 use itoa::Buffer;
+use run_reports::{refuse, refuse_bound, refuse_key, refuse_memory};
 use series_law::{job_uniqueness, same_tables};
 use std::alloc::Global;
 

@@ -3,6 +3,7 @@ use Rattle.std.proofs.Common.{◌≡◌, ℕ, suc, ◌-◌, ◌<◌, ◌≤◌, 
 use Rattle.std.specs.Prelude.{ℤ, cond, nat_eq}
 use Rattle.std.specs.List.{AllByRecursion}
 use Rattle.std.proofs.lemmas.Int.{ints}
+use Rattle.std.proofs.lemmas.List.{length-map}
 use native.Mathlib.Nat.{pow-le-pow_right}
 use Rattle.airy_math.specs.Keys.{total, key_of, insert}
 use Rattle.airy_math.specs.Rational.{whole}
@@ -12,17 +13,19 @@ use Rattle.airy_index.specs.Choices.{all_splits, whole_length}
 use Rattle.airy_index.proofs.SplitLaw.{splits_law}
 use Rattle.sparse_tensor.specs.Entries.{looked_up}
 use Rattle.item_chains.specs.Chains.{from_first}
+use Rattle.item_chains.proofs.ChainLemmas.{first-within}
 use Rattle.amp_plan.specs.Plans.{Planning, tensors_of}
-use Rattle.amp_plan.specs.Ranked.{RankedTerm, Twice, Takes}
+use Rattle.amp_plan.specs.Ranked.{RankedTerm, Twice, NameAllowed, Takes}
 use Rattle.amp_plan.specs.Walk.{HasRoom, split_part}
 use Rattle.amp_plan.specs.Measures.{IsMeasured, excess, gain, loss}
-use Rattle.amp_plan.specs.Shares.{listed, IsShare, FitsShare, IsChosen}
-use Rattle.amp_plan.specs.SplitLists.{chain, numbers_of, all_listed}
+use Rattle.amp_plan.specs.Shares.{listed, choice_part, IsShare, FitsShare, IsChosen, CanGoOn}
+use Rattle.amp_plan.specs.SplitLists.{chain, listed_of, chosen_of, numbers_of, all_listed}
 use Rattle.amp_plan.specs.declared.share.Share.{Share}
 use Rattle.amp_plan.specs.declared.share.Chosen.{Chosen}
-use Rattle.amp_plan.proofs.WalkLemmas.{each-append, taken-all, HasTaken}
+use Rattle.amp_plan.specs.declared.split_list.Listed.{Listed}
+use Rattle.amp_plan.proofs.WalkLemmas.{each-append, taken-all, taken-more, allowed-next, HasTaken}
 use Rattle.amp_plan.proofs.SplitWalkLemmas.{total_at}
-use Rattle.amp_plan.proofs.ChoiceLemmas.{all-left, all-right, all-both, each-none, behind-end}
+use Rattle.amp_plan.proofs.ChoiceLemmas.{all-left, all-right, all-both, each-none, behind-end, choices-end}
 use Rattle.amp_plan.proofs.MeasureLemmas.{bytes_below}
 use Rattle.amp_plan.proofs.ReachLemmas.{no_ranks, live_within}
 use Rattle.amp_plan.proofs.RestLemmas.{all-standing}
@@ -65,7 +68,7 @@ no_more c n (s ∷ ss) l = by (nat_eq (chain (excess c s.part)) n) refl l (no_mo
 
 -- where the next split stands in the whole list
 pub listed-parts : (c : ℤ) (taken before after ahead all : List Split) (s : Split) → taken ++ ahead ≡ all → before ++ s ∷ after ≡ ahead
-    → all_listed c (taken ++ before) ++ (chain (excess c s.part), numbers_of c s) ∷ all_listed c after ≡ all_listed c all
+    → all_listed c (taken ++ before) ++ (chain (excess c s.part), listed_of (numbers_of c s)) ∷ all_listed c after ≡ all_listed c all
 unfolding all_listed
 listed-parts c taken before after ahead all s e h =
     sym (listed-append c (taken ++ before) (s ∷ after)) ∙ ap (all_listed c) (append_assoc taken before (s ∷ after) ∙ ap (λ us. taken ++ us) h ∙ e)
@@ -136,10 +139,6 @@ before_none p h all taken ahead left x is one stand e =
     all-both (StandsIn p h) (λ s. chain (excess h.per_n s.part) ≡ chain h.low → ⊥) (λ s. split_part p h.genus h.pair.a h.pair.b h.pair.weight h.k s ≡ []) x.before (λ s f o. other_none p h s is one f o)
     (all-left (StandsIn p h) x.before (x.split ∷ x.after) (all-ahead (StandsIn p h) [] (x.before ++ x.split ∷ x.after) ahead x.parts (all-ahead (StandsIn p h) taken ahead all e stand))) x.others
 
-pub next_stands : (p : Planning) (h : Share) (all taken ahead : List Split) (left : ℕ) (x : IsNext h.per_n (chain h.low) ahead left) → AllByRecursion (StandsIn p h) all → taken ++ ahead ≡ all → StandsIn p h x.split
-next_stands p h all taken ahead left x stand e =
-    (all-right (StandsIn p h) x.before (x.split ∷ x.after) (all-ahead (StandsIn p h) [] (x.before ++ x.split ∷ x.after) ahead x.parts (all-ahead (StandsIn p h) taken ahead all e stand))).0
-
 -- at the end of the chain none of those ahead makes a product
 pub none_ahead : (p : Planning) (h : Share) (all taken ahead : List Split) → IsShare p h → h.low ≡ h.high → AllByRecursion (StandsIn p h) all → taken ++ ahead ≡ all → from_first (chain h.low) (all_listed h.per_n ahead) ≡ 0
     → AllByRecursion (λ s. split_part p h.genus h.pair.a h.pair.b h.pair.weight h.k s ≡ []) ahead
@@ -147,40 +146,93 @@ none_ahead p h all taken ahead is one stand e end =
     all-both (StandsIn p h) (λ s. chain (excess h.per_n s.part) ≡ chain h.low → ⊥) (λ s. split_part p h.genus h.pair.a h.pair.b h.pair.weight h.k s ≡ []) ahead (λ s f o. other_none p h s is one f o)
     (all-ahead (StandsIn p h) taken ahead all e stand) (no_more h.per_n (chain h.low) ahead end)
 
--- The split that a walk along the chain meets next, where it stands in the list, and what was taken before it.
-pub record IsMet {W S : Type 0} (allows : W → ℕ → Type 0) (state : W → S) (step : S → RankedTerm → S) (p : Planning) (h : Share) (all : List Split) (left : ℕ) (old new : W) : Type 0 where
-  pub split : Split
-  pub after : List Split
-  pub before : List (ℕ × Chosen)
-  pub parts : before ++ (chain (excess h.per_n split.part), numbers_of h.per_n split) ∷ all_listed h.per_n after ≡ all_listed h.per_n all
-  pub at : left ≡ suc (length (all_listed h.per_n after))
-  pub same : chain (excess h.per_n split.part) ≡ chain h.low
-  pub chosen : IsChosen p h [] (numbers_of h.per_n split) split
-  pub taken : HasTaken allows state step (split_part p h.genus h.pair.a h.pair.b h.pair.weight h.k) all (split ∷ after) old new
+-- A visitor that took what all splits make but those ahead, which are so many.
+pub record HasGone {W S : Type 0} (allows : W → ℕ → Type 0) (state : W → S) (step : S → RankedTerm → S) (f : Split → List RankedTerm) (all : List Split) (left : ℕ) (old new : W) : Type 0 where
+  pub ahead : List Split
+  pub is : left ≡ length ahead
+  pub taken : HasTaken allows state step f all ahead old new
 
-pub meets : {W S : Type 0} (allows : W → ℕ → Type 0) (state : W → S) (step : S → RankedTerm → S) (p : Planning) (h : Share) (all : List Split) (left : ℕ) (old new : W)
-    → IsShare p h → h.low ≡ h.high → AllByRecursion (StandsIn p h) all → HasWalked allows state step (split_part p h.genus h.pair.a h.pair.b h.pair.weight h.k) h.per_n (chain h.low) all left old new → 0 < left
-    → IsMet allows state step p h all left old new
-meets allows state step p h all left old new is one stand w l =
-    let f : Split → List RankedTerm = split_part p h.genus h.pair.a h.pair.b h.pair.weight h.k in
-    let first = from_first (chain h.low) (all_listed h.per_n w.ahead) in
-    let x : IsNext h.per_n (chain h.low) w.ahead first = next_split h.per_n (chain h.low) w.ahead (subst (λ k. 0 < k) w.is l) in
-    record {
-      split = x.split;
-      after = x.after;
-      before = all_listed h.per_n (w.taken.before ++ x.before);
-      parts = listed-parts h.per_n w.taken.before x.before x.after w.ahead all x.split w.taken.parts x.parts;
-      at = w.is ∙ x.at;
-      same = x.same;
-      chosen = listed_chosen p h x.split is (next_stands p h all w.taken.before w.ahead first x stand w.taken.parts);
-      taken = taken-skip allows state step f all x.before (x.split ∷ x.after) w.ahead old new x.parts (before_none p h all w.taken.before w.ahead first x is one stand w.taken.parts) w.taken;
+pub length-listed : (c : ℤ) (ss : List Split) → length (all_listed c ss) ≡ length ss
+unfolding all_listed
+length-listed c ss = length-map ss (λ s. (chain (excess c s.part), listed_of (numbers_of c s)))
+
+-- what is answered of the item from which on there are so many
+abbrev pub IsAt : List (ℕ × Listed) → ℕ → Listed × ℕ → Type 0
+IsAt xs left r = (before after : List (ℕ × Listed)) (x : ℕ × Listed) → before ++ x ∷ after ≡ xs → left ≡ suc (length after) → r ≡ (x.1, from_first x.0 after)
+
+listed-back : (c : ℤ) (s : Split) (l : Listed) → l ≡ listed_of (numbers_of c s) → chosen_of l ≡ numbers_of c s
+unfolding listed_of chosen_of numbers_of
+listed-back c s l e = ap chosen_of e
+
+module _ {W S : Type 0} (allows : W → ℕ → Type 0) (state : W → S) (step : S → RankedTerm → S) (p : Planning) (h : Share) (all : List Split) where
+  -- the products of a split
+  abbrev pub made : Split → List RankedTerm
+  made s = split_part p h.genus h.pair.a h.pair.b h.pair.weight h.k s
+
+  -- A split that is met as it is listed, what stands behind it, and what was taken before it.
+  pub record IsMet (left : ℕ) (r : Listed × ℕ) (old new : W) : Type 0 where
+    pub split : Split
+    pub after : List Split
+    pub at : left ≡ suc (length (all_listed h.per_n after))
+    pub next : r.1 ≡ from_first (chain (excess h.per_n split.part)) (all_listed h.per_n after)
+    pub chosen : IsChosen p h [] (chosen_of r.0) split
+    pub taken : HasTaken allows state step made all (split ∷ after) old new
+
+  -- with what was taken before those that stand ahead, of which the first ones make nothing
+  met-of : IsShare p h → AllByRecursion (StandsIn p h) all → (xs : List (ℕ × Listed)) (left : ℕ) (r : Listed × ℕ) (ahead before after : List Split) (s : Split) (old new : W) → xs ≡ all_listed h.per_n all → IsAt xs left r
+      → HasTaken allows state step made all ahead old new → before ++ s ∷ after ≡ ahead → left ≡ suc (length (all_listed h.per_n after)) → AllByRecursion (λ u. made u ≡ []) before → IsMet left r old new
+  met-of is stand xs left r ahead before after s old new listed at t parts here none =
+      let met = at (all_listed h.per_n (t.before ++ before)) (all_listed h.per_n after) (chain (excess h.per_n s.part), listed_of (numbers_of h.per_n s)) (listed-parts h.per_n t.before before after ahead all s t.parts parts ∙ sym listed) here in
+      let stands = (all-right (StandsIn p h) before (s ∷ after) (all-ahead (StandsIn p h) [] (before ++ s ∷ after) ahead parts (all-ahead (StandsIn p h) t.before ahead all t.parts stand))).0 in
+      record {
+        split = s;
+        after = after;
+        at = here;
+        next = ap (λ q. q.1) met;
+        chosen = subst (λ d. IsChosen p h [] d s) (sym (listed-back h.per_n s r.0 (ap (λ q. q.0) met))) (listed_chosen p h s is stands);
+        taken = taken-skip allows state step made all before (s ∷ after) ahead old new parts none t;
+      }
+
+  module _ (left : ℕ) (r : Listed × ℕ) (old new : W) (m : IsMet left r old new) where
+    pub met-goes_on : NameAllowed (allows old) (each all made) → CanGoOn (allows new) p h [] (chosen_of r.0)
+    met-goes_on a = record {
+      split = m.split;
+      chosen = m.chosen;
+      allowed = subst (NameAllowed (allows new)) (sym (choices-end p h m.split)) (allowed-next allows state step made all (m.split ∷ m.after) m.after m.split old new refl a m.taken);
     }
 
--- at the end of the chain all is taken
-pub walked-all : {W S : Type 0} (allows : W → ℕ → Type 0) (state : W → S) (step : S → RankedTerm → S) (p : Planning) (h : Share) (all : List Split) (left : ℕ) (old new : W)
-    → IsShare p h → h.low ≡ h.high → AllByRecursion (StandsIn p h) all → HasWalked allows state step (split_part p h.genus h.pair.a h.pair.b h.pair.weight h.k) h.per_n (chain h.low) all left old new → left ≡ 0
-    → Takes allows state step (each all (split_part p h.genus h.pair.a h.pair.b h.pair.weight h.k)) old new
-walked-all allows state step p h all left old new is one stand w l =
-    let f : Split → List RankedTerm = split_part p h.genus h.pair.a h.pair.b h.pair.weight h.k in
-    taken-all allows state step f all [] old new refl
-    (taken-skip allows state step f all w.ahead [] w.ahead old new (append-nil w.ahead) (none_ahead p h all w.taken.before w.ahead is one stand w.taken.parts (sym w.is ∙ l)) w.taken)
+    pub met-taken : (newer : W) → ((s : Split) → IsChosen p h [] (chosen_of r.0) s → Takes allows state step (choice_part p h s []) new newer) → HasTaken allows state step made all m.after old newer
+    met-taken newer t = taken-more allows state step made all (m.split ∷ m.after) m.after m.split old new newer refl m.taken
+        (subst (λ ts. Takes allows state step ts new newer) (choices-end p h m.split) (t m.split m.chosen))
+
+    pub met-shorter : r.1 < left
+    met-shorter = omega (arith, m.next, m.at, first-within (chain (excess h.per_n m.split.part)) (all_listed h.per_n m.after))
+
+  -- A split that a walk along the chain of the one excess meets
+  pub record IsMetInChain (left : ℕ) (r : Listed × ℕ) (old new : W) : Type 0 where
+    pub met : IsMet left r old new
+    pub same : chain (excess h.per_n met.split.part) ≡ chain h.low
+
+  module _ (is : IsShare p h) (stand : AllByRecursion (StandsIn p h) all) (left : ℕ) (old new : W) where
+    pub meets : h.low ≡ h.high → HasWalked allows state step made h.per_n (chain h.low) all left old new → 0 < left → (xs : List (ℕ × Listed)) (r : Listed × ℕ) → xs ≡ all_listed h.per_n all → IsAt xs left r → IsMetInChain left r old new
+    unfolding met-of next_split
+    meets one w l xs r listed at =
+        let first = from_first (chain h.low) (all_listed h.per_n w.ahead) in
+        let x : IsNext h.per_n (chain h.low) w.ahead first = next_split h.per_n (chain h.low) w.ahead (subst (λ k. 0 < k) w.is l) in record {
+          met = met-of is stand xs left r w.ahead x.before x.after x.split old new listed at w.taken x.parts (w.is ∙ x.at) (before_none p h all w.taken.before w.ahead first x is one stand w.taken.parts);
+          same = x.same;
+        }
+
+    -- at the end of the chain all is taken
+    pub walked-all : h.low ≡ h.high → HasWalked allows state step made h.per_n (chain h.low) all left old new → left ≡ 0 → Takes allows state step (each all made) old new
+    walked-all one w l =
+        taken-all allows state step made all [] old new refl
+        (taken-skip allows state step made all w.ahead [] w.ahead old new (append-nil w.ahead) (none_ahead p h all w.taken.before w.ahead is one stand w.taken.parts (sym w.is ∙ l)) w.taken)
+
+    -- a walk along the whole list
+    pub meets-each : HasGone allows state step made all left old new → 0 < left → (xs : List (ℕ × Listed)) (r : Listed × ℕ) → xs ≡ all_listed h.per_n all → IsAt xs left r → IsMet left r old new
+    meets-each w l xs r listed at = by w.ahead w.is w.taken
+      where
+        by : (ahead : List Split) → left ≡ length ahead → HasTaken allows state step made all ahead old new → IsMet left r old new
+        by [] e t = absurd (omega (arith, e, l))
+        by (s ∷ after) e t = met-of is stand xs left r (s ∷ after) [] after s old new listed at t refl (e ∙ ap suc (sym (length-listed h.per_n after))) tt

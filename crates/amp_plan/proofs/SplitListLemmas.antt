@@ -1,5 +1,5 @@
 -- The splits of a list as they are listed, run by run.
-use Rattle.std.proofs.Common.{◌≡◌, ℕ, suc, ◌+◌, ◌-◌, ◌*◌, ◌/◌, ◌<◌, ◌≤◌, ◌^◌, Bool, true, List, [], ◌∷◌, ◌++◌, length, length-append, map, append_assoc, append-nil, refl, sym, ap, ap₂, ◌∙◌, arith, lit≤}
+use Rattle.std.proofs.Common.{◌≡◌, ℕ, suc, ◌+◌, ◌-◌, ◌*◌, ◌/◌, ◌<◌, ◌≤◌, ◌^◌, Bool, true, List, [], ◌∷◌, ◌++◌, length, length-append, map, append_assoc, append-nil, refl, sym, ap, ap₂, subst, ◌∙◌, arith, lit≤}
 use Rattle.std.specs.Prelude.{ℤ, pos, ◌+ℤ◌}
 use Rattle.std.specs.Int.RustNames.{unsigned_abs}
 use lib.ListN.{replicate}
@@ -16,9 +16,10 @@ use Rattle.airy_index.proofs.ChosenLemmas.{small_more}
 use Rattle.key_index.specs.Codes.{code_of_list}
 use Rattle.amp_plan.specs.Measures.{excess, IsMeasured, IsLight}
 use Rattle.amp_plan.specs.Shares.{behind, more_of, no_split}
-use Rattle.amp_plan.specs.SplitLists.{chain, numbers_of, all_listed, taken_so, going_on, copies, CanBeListed}
+use Rattle.amp_plan.specs.SplitLists.{chain, listed_of, numbers_of, all_listed, taken_so, going_on, copies, CanBeListed}
 use Rattle.amp_plan.specs.declared.measure.Measure.{Measure}
 use Rattle.amp_plan.specs.declared.share.Chosen.{Chosen}
+use Rattle.amp_plan.specs.declared.split_list.Listed.{Listed}
 use Rattle.amp_plan.proofs.WalkLemmas.{count-next, count-over}
 use Rattle.amp_plan.proofs.PartLemmas.{map-each}
 use Rattle.amp_plan.proofs.ChoiceLemmas.{each-same, behind-more, behind-end, behind-none}
@@ -105,27 +106,13 @@ going-over s r rs t l = ap (λ ns. each ns (λ u. map (behind (more_of s r u)) (
 
 pub listed-append : (c : ℤ) (ss us : List Split) → all_listed c (ss ++ us) ≡ all_listed c ss ++ all_listed c us
 unfolding all_listed
-listed-append c ss us = map-append (λ s. (chain (excess c s.part), numbers_of c s)) ss us
+listed-append c ss us = map-append (λ s. (chain (excess c s.part), listed_of (numbers_of c s))) ss us
 
--- those with more copies of the first run's index are listed, and then those with t copies before them
-pub listed-step : (c : ℤ) (s : Split) (r : ℕ × ℕ) (rs : List (ℕ × ℕ)) (t : ℕ) (old mid new : List (ℕ × Chosen)) → t ≤ r.1 → mid ≡ all_listed c (going_on s (r ∷ rs) (t + 1)) ++ old → new ≡ all_listed c (going_on (more_of s r t) rs 0) ++ mid
-    → new ≡ all_listed c (going_on s (r ∷ rs) t) ++ old
-listed-step c s r rs t old mid new l e h =
-    let here = going_on (more_of s r t) rs 0 in
-    let more = going_on s (r ∷ rs) (t + 1) in
-    h ∙ ap (λ xs. all_listed c here ++ xs) e ∙ sym (append_assoc (all_listed c here) (all_listed c more) old)
-    ∙ ap (λ xs. xs ++ old) (sym (listed-append c here more) ∙ ap (all_listed c) (sym (going-step s r rs t l)))
-
-pub listed-last : (c : ℤ) (s : Split) (r : ℕ × ℕ) (rs : List (ℕ × ℕ)) (t : ℕ) (old new : List (ℕ × Chosen)) → t ≡ r.1 → new ≡ all_listed c (going_on (more_of s r t) rs 0) ++ old
-    → new ≡ all_listed c (going_on s (r ∷ rs) t) ++ old
-unfolding all_listed
-listed-last c s r rs t old new e h = listed-step c s r rs t old old new (omega (arith, e)) (ap (λ ss. all_listed c ss ++ old) (sym (going-over s r rs (t + 1) (omega (arith, e))))) h
-
-pub listed-one : (c : ℤ) (s : Split) (t n : ℕ) (x : Chosen) (old new : List (ℕ × Chosen)) → x ≡ numbers_of c (taken_so s [] t) → n ≡ chain x.part.excess → new ≡ (n, x) ∷ old → new ≡ all_listed c (going_on s [] t) ++ old
+pub listed-one : (c : ℤ) (s : Split) (t n : ℕ) (x : Chosen) (old new : List (ℕ × Listed)) → x ≡ numbers_of c (taken_so s [] t) → n ≡ chain x.part.excess → new ≡ (n, listed_of x) ∷ old → new ≡ all_listed c (going_on s [] t) ++ old
 unfolding all_listed going_on taken_so numbers_of
 listed-one c s t n x old new e i h =
     let place : n ≡ chain (excess c s.part) = i ∙ ap (λ z. chain z.part.excess) e in
-    h ∙ ap₂ (λ m z. (m, z) ∷ old) place e
+    h ∙ ap₂ (λ m z. (m, listed_of z) ∷ old) place e
 
 -- ---- what can be listed
 
@@ -135,7 +122,14 @@ listable-small c t x law k =
     let n = are-numbers c k.split x k.is in
     omega (arith, ap unsigned_abs n.part.excess, excess-small c k.split.part law k.bytes, k.few)
 
-module _ (c : ℤ) (r : ℕ × ℕ) (rs : List (ℕ × ℕ)) (t : ℕ) (x : Chosen) (k : CanBeListed c (r ∷ rs) t x) where
+pub listable-few : (c : ℤ) (t : ℕ) (x : Chosen) → CanBeListed c [] t x → x.ways ≤ 2 ^ 25
+unfolding taken_so whole_length total
+listable-few c t x k = omega (arith, (are-numbers c k.split x k.is).ways, k.small)
+
+module _ (c : ℤ) (left : List (ℕ × ℕ)) (r : ℕ × ℕ) (rs : List (ℕ × ℕ)) (t : ℕ) (x : Chosen) (first : left ≡ r ∷ rs) (listable : CanBeListed c left t x) where
+  k : CanBeListed c (r ∷ rs) t x
+  k = subst (λ l. CanBeListed c l t x) first listable
+
   numbered : IsNumbered c (more_of k.split r t) x
   unfolding taken_so
   numbered = are-numbers c (more_of k.split r t) x k.is
@@ -176,21 +170,26 @@ module _ (c : ℤ) (r : ℕ × ℕ) (rs : List (ℕ × ℕ)) (t : ℕ) (x : Chos
 
   -- with one copy more
   pub listable-more : (e : Chosen) (item : Measure) → (t ≡ r.1 → ⊥) → IsMeasured c (r.0 ∷ []) item
-      → e ≡ record x { part = record { places = x.part.places + item.places; excess = x.part.excess +ℤ item.excess; code = x.part.code + item.code }; ways = x.ways * (r.1 - t) / (t + 1) } → CanBeListed c (r ∷ rs) (t + 1) e
+      → e ≡ record x { part = record { places = x.part.places + item.places; excess = x.part.excess +ℤ item.excess; code = x.part.code + item.code }; ways = x.ways * (r.1 - t) / (t + 1) } → CanBeListed c left (t + 1) e
   unfolding taken_so copies
-  listable-more e item n i same = record {
+  listable-more e item n i same = subst (λ l. CanBeListed c l (t + 1) e) (sym first) (record {
     split = k.split;
     is = numbers-are c (more_of k.split r (t + 1)) e (numbers-next c k.split r t x e item numbered i same);
     within = grind (arith, within, n);
     bytes = k.bytes;
     few = k.few;
     small = k.small;
-  }
+  })
 
-  pub numbers-more : (s : Split) (e : Chosen) (item : Measure) → x ≡ numbers_of c (taken_so s (r ∷ rs) t) → IsMeasured c (r.0 ∷ []) item
-      → e ≡ record x { part = record { places = x.part.places + item.places; excess = x.part.excess +ℤ item.excess; code = x.part.code + item.code }; ways = x.ways * (r.1 - t) / (t + 1) } → e ≡ numbers_of c (taken_so s (r ∷ rs) (t + 1))
+  is-first : (s : Split) → x ≡ numbers_of c (taken_so s left t) → x ≡ numbers_of c (more_of s r t)
   unfolding taken_so
-  numbers-more s e item is i same = numbers-are c (more_of s r (t + 1)) e (numbers-next c s r t x e item (are-numbers c (more_of s r t) x is) i same)
+  is-first s is = is ∙ ap (λ l. numbers_of c (taken_so s l t)) first
+
+  pub numbers-more : (s : Split) (e : Chosen) (item : Measure) → x ≡ numbers_of c (taken_so s left t) → IsMeasured c (r.0 ∷ []) item
+      → e ≡ record x { part = record { places = x.part.places + item.places; excess = x.part.excess +ℤ item.excess; code = x.part.code + item.code }; ways = x.ways * (r.1 - t) / (t + 1) } → e ≡ numbers_of c (taken_so s left (t + 1))
+  unfolding taken_so
+  numbers-more s e item is i same =
+      numbers-are c (more_of s r (t + 1)) e (numbers-next c s r t x e item (are-numbers c (more_of s r t) x (is-first s is)) i same) ∙ ap (λ l. numbers_of c (taken_so s l (t + 1))) (sym first)
 
   -- the runs behind the first one
   pub listable-others : r.0 < 256 → CanBeListed c rs 0 x
@@ -204,9 +203,39 @@ module _ (c : ℤ) (r : ℕ × ℕ) (rs : List (ℕ × ℕ)) (t : ℕ) (x : Chos
     small = fewer;
   }
 
-  pub numbers-others : (s : Split) → x ≡ numbers_of c (taken_so s (r ∷ rs) t) → x ≡ numbers_of c (taken_so (more_of s r t) rs 0)
-  unfolding taken_so
-  numbers-others s is = is ∙ numbers-begin c (more_of s r t) rs
+  pub numbers-others : (s : Split) → x ≡ numbers_of c (taken_so s left t) → x ≡ numbers_of c (taken_so (more_of s r t) rs 0)
+  numbers-others s is = is-first s is ∙ numbers-begin c (more_of s r t) rs
+
+  -- those with more copies of the first run's index are listed, and then those with t copies before them
+  pub listed-step : (s : Split) (old mid new : List (ℕ × Listed)) → mid ≡ all_listed c (going_on s left (t + 1)) ++ old → new ≡ all_listed c (going_on (more_of s r t) rs 0) ++ mid
+      → new ≡ all_listed c (going_on s left t) ++ old
+  listed-step s old mid new e h =
+      let here = going_on (more_of s r t) rs 0 in
+      let more = going_on s left (t + 1) in
+      let all : here ++ more ≡ going_on s left t = subst (λ l. here ++ going_on s l (t + 1) ≡ going_on s l t) (sym first) (sym (going-step s r rs t within)) in
+      h ∙ ap (λ xs. all_listed c here ++ xs) e ∙ sym (append_assoc (all_listed c here) (all_listed c more) old)
+      ∙ ap (λ xs. xs ++ old) (sym (listed-append c here more) ∙ ap (all_listed c) all)
+
+  pub listed-last : (s : Split) (old new : List (ℕ × Listed)) → t ≡ r.1 → new ≡ all_listed c (going_on (more_of s r t) rs 0) ++ old → new ≡ all_listed c (going_on s left t) ++ old
+  unfolding all_listed
+  listed-last s old new e h =
+      let none : going_on s left (t + 1) ≡ [] = ap (λ l. going_on s l (t + 1)) first ∙ going-over s r rs (t + 1) (omega (arith, e)) in
+      listed-step s old old new (ap (λ ss. all_listed c ss ++ old) (sym none)) h
+
+  -- a run less, or a copy more of the first one
+  pub falls-others : 2 * (whole_length rs + length rs) + 1 < 2 * (whole_length left + length left - t)
+  unfolding whole_length total
+  falls-others =
+      let n : whole_length left ≡ r.1 + whole_length rs = ap whole_length first in
+      let m : length left ≡ suc (length rs) = ap length first in
+      omega (arith, n, m, within)
+
+  pub falls-more : 2 * (whole_length left + length left - (t + 1)) < 2 * (whole_length left + length left - t)
+  unfolding whole_length total
+  falls-more =
+      let n : whole_length left ≡ r.1 + whole_length rs = ap whole_length first in
+      let m : length left ≡ suc (length rs) = ap length first in
+      omega (arith, n, m, within)
 
 -- ---- from nothing on
 
@@ -232,26 +261,11 @@ listable-nothing c I rs e few =
     }
 
 -- all splits of a list are listed
-pub listed-whole : (c : ℤ) (I : List ℕ) (rs : List (ℕ × ℕ)) (old new : List (ℕ × Chosen)) → rs ≡ runs I → old ≡ [] → new ≡ all_listed c (going_on no_split rs 0) ++ old → new ≡ all_listed c (splits I)
+pub listed-whole : (c : ℤ) (I : List ℕ) (rs : List (ℕ × ℕ)) (old new : List (ℕ × Listed)) → rs ≡ runs I → old ≡ [] → new ≡ all_listed c (going_on no_split rs 0) ++ old → new ≡ all_listed c (splits I)
 listed-whole c I rs old new e none h =
     h ∙ ap (λ xs. all_listed c (going_on no_split rs 0) ++ xs) none ∙ append-nil (all_listed c (going_on no_split rs 0)) ∙ ap (λ l. all_listed c (going_on no_split l 0)) e ∙ ap (all_listed c) (going-from_none I)
 
 -- ---- what a call lists
 
-abbrev pub Lists : ℤ → List (ℕ × ℕ) → ℕ → Chosen → Bool → List (ℕ × Chosen) → List (ℕ × Chosen) → Type 0
+abbrev pub Lists : ℤ → List (ℕ × ℕ) → ℕ → Chosen → Bool → List (ℕ × Listed) → List (ℕ × Listed) → Type 0
 Lists c left t x done old new = (s : Split) → x ≡ numbers_of c (taken_so s left t) → done ≡ true → new ≡ all_listed c (going_on s left t) ++ old
-
--- a run less, or a copy more of the first one
-pub falls-others : (left : List (ℕ × ℕ)) (r : ℕ × ℕ) (rs : List (ℕ × ℕ)) (t : ℕ) → left ≡ r ∷ rs → t ≤ r.1 → 2 * (whole_length rs + length rs) + 1 < 2 * (whole_length left + length left - t)
-unfolding whole_length total
-falls-others left r rs t e l =
-    let n : whole_length left ≡ r.1 + whole_length rs = ap whole_length e in
-    let m : length left ≡ suc (length rs) = ap length e in
-    omega (arith, n, m, l)
-
-pub falls-more : (left : List (ℕ × ℕ)) (r : ℕ × ℕ) (rs : List (ℕ × ℕ)) (t : ℕ) → left ≡ r ∷ rs → t ≤ r.1 → 2 * (whole_length left + length left - (t + 1)) < 2 * (whole_length left + length left - t)
-unfolding whole_length total
-falls-more left r rs t e l =
-    let n : whole_length left ≡ r.1 + whole_length rs = ap whole_length e in
-    let m : length left ≡ suc (length rs) = ap length e in
-    omega (arith, n, m, l)

@@ -1,20 +1,22 @@
 -- A walk over the splits of a list begins with nothing chosen.
-use Rattle.std.proofs.Common.{◌≡◌, ℕ, ◌≤◌, ◌^◌, List, [], ◌∷◌, length, refl, sym, ap, ◌∙◌, arith, lit≤}
+use Rattle.std.proofs.Common.{◌≡◌, ℕ, ◌≤◌, ◌^◌, List, [], ◌∷◌, length, refl, sym, ap, subst, ◌∙◌, arith, lit≤}
 use Rattle.std.specs.Prelude.{pos}
 use Rattle.std.specs.List.{AllByRecursion}
 use native.Mathlib.Nat.{pow-le-pow_right}
 use Rattle.airy_math.specs.Keys.{IsSortedFrom}
+use Rattle.airy_math.specs.Shapes.{per_n}
 use Rattle.airy_math.specs.Splits.{runs, splits}
 use Rattle.airy_index.specs.Choices.{whole_length}
 use Rattle.sparse_tensor.specs.Entries.{looked_up}
 use Rattle.amp_plan.specs.Plans.{Planning, tensors_of}
+use Rattle.amp_plan.specs.Ranked.{RankedTerm}
 use Rattle.amp_plan.specs.Walk.{HasRoom, IsPartOf, genus_part}
 use Rattle.amp_plan.specs.Measures.{IsMeasured, gain, loss}
-use Rattle.amp_plan.specs.Shares.{no_split, choice_part, IsShare, FitsShare, IsChosen}
+use Rattle.amp_plan.specs.Shares.{no_split, of_share, IsShare, FitsShare, IsChosen}
 use Rattle.amp_plan.specs.declared.share.Share.{Share}
 use Rattle.amp_plan.specs.declared.pair.Pair.{Pair}
 use Rattle.amp_plan.proofs.SplitWalkLemmas.{part_of}
-use Rattle.amp_plan.proofs.ChoiceLemmas.{all-both, choices-all, fits-all}
+use Rattle.amp_plan.proofs.ChoiceLemmas.{all-both, fits-all}
 use Rattle.amp_plan.proofs.MeasureLemmas.{measured-none}
 use Rattle.amp_plan.proofs.RestLemmas.{AddUp, splits-add, measured-whole, all-standing, listed-runs, length-runs}
 
@@ -52,6 +54,17 @@ chosen_first p h I up down is room right e f =
       small = omega (arith, power);
     }
 
--- the products of a share are those of its genus
-pub share_part : (p : Planning) (h : Share) (I : List ℕ) (g k : ℕ) (pair : Pair) → h.genus ≡ g → h.k ≡ k → h.pair ≡ pair → choice_part p h no_split (runs I) ≡ genus_part p g I pair.a pair.b pair.weight k
-share_part p h I g k pair e f i = choices-all p h I ∙ (λ j. genus_part p (e j) I (i j).a (i j).b (i j).weight (f j))
+-- A share of a pair and a genus, with what a walk over it asks.
+pub record IsBegun (p : Planning) (h : Share) (I : List ℕ) (products : List RankedTerm) : Type 0 where
+  pub room : HasRoom (tensors_of p) p.bound h.genus I
+  pub right : IsMeasured h.per_n (h.pair.b ∷ I) h.right
+  pub all : of_share p h I ≡ products
+
+pub begun : (p : Planning) (h : Share) (I : List ℕ) (g k : ℕ) (pair : Pair) → IsShare p h → h.genus ≡ g → h.k ≡ k → h.pair ≡ pair → HasRoom (tensors_of p) p.bound g I → IsMeasured (per_n p.tensors.shape) (pair.b ∷ I) h.right
+    → IsBegun p h I (genus_part p g I pair.a pair.b pair.weight k)
+unfolding of_share
+begun p h I g k pair is e f i room right = record {
+  room = subst (λ n. HasRoom (tensors_of p) p.bound n I) (sym e) room;
+  right = subst (λ z. IsMeasured z (h.pair.b ∷ I) h.right) (sym is.law) (subst (λ (q : Pair). IsMeasured (per_n p.tensors.shape) (q.b ∷ I) h.right) (sym i) right);
+  all = λ j. genus_part p (e j) I (i j).a (i j).b (i j).weight (f j);
+}

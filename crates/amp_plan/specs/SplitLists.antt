@@ -13,6 +13,7 @@ use Rattle.key_index.specs.Codes.{code_of_list}
 use Rattle.amp_plan.specs.Measures.{excess}
 use Rattle.amp_plan.specs.Shares.{behind, more_of}
 use Rattle.amp_plan.specs.declared.share.Chosen.{Chosen}
+use Rattle.amp_plan.specs.declared.split_list.Listed.{Listed}
 
 -- the number of the chain of the parts with an excess: those of one excess have one chain
 unfoldable pub chain : ℤ → ℕ
@@ -22,9 +23,17 @@ chain e = natural (e +ℤ pos (2 ^ 29)) % 64
 unfoldable pub numbers_of : ℤ → Split → Chosen
 numbers_of c s = record { part = record { places = length s.part; excess = excess c s.part; code = code_of_list s.part }; ways = s.ways; gain = 0; loss = 0 }
 
--- the numbers of all splits, each with its chain
-unfoldable pub all_listed : ℤ → List Split → List (ℕ × Chosen)
-all_listed c ss = map (λ s. (chain (excess c s.part), numbers_of c s)) ss
+-- what is listed of a part with such numbers
+unfoldable pub listed_of : Chosen → Listed
+listed_of x = record { code = x.part.code; ways = x.ways; excess = x.part.excess; places = x.part.places }
+
+-- the numbers of a part that is listed, of which nothing is left to choose
+unfoldable pub chosen_of : Listed → Chosen
+chosen_of l = record { part = record { places = l.places; excess = l.excess; code = l.code }; ways = l.ways; gain = 0; loss = 0 }
+
+-- all splits as they are listed, each with its chain
+unfoldable pub all_listed : ℤ → List Split → List (ℕ × Listed)
+all_listed c ss = map (λ s. (chain (excess c s.part), listed_of (numbers_of c s))) ss
 
 -- the split with t copies of the first run's index, where a run is left
 unfoldable pub taken_so : Split → List (ℕ × ℕ) → ℕ → Split

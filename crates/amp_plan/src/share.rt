@@ -244,9 +244,34 @@ fn walk_listed<const N: usize, V: TermVisitor>(
 {
     let mut left = list.splits.first(chain_of(share.low));
     while left > 0 {
-        let (chosen, next) = list.splits.at(left);
-        walk_chosen(ranking, index, share, &chosen, visitor);
+        let (split, next) = list.splits.at(left as usize);
+        walk_chosen(ranking, index, share, &split.chosen(), visitor);
         left = next;
+    }
+}
+
+/// Hands over the products of all splits that are listed.
+fn walk_whole<const N: usize, V: TermVisitor>(
+    ranking: &Ranking,
+    index: &KeyIndex,
+    share: &Share,
+    list: &SplitList<N>,
+    visitor: &mut V,
+)
+    requires keys { index.now.keys ≡ keys_of ranking.now }
+    requires exact { index.now.exact ≡ true }
+    requires share { IsShare ranking.now share.now }
+    requires room { HasRoom (tensors_of ranking.now) ranking.now.bound share.now.genus list.now.rest.list.items }
+    requires right { IsMeasured share.now.per_n (share.now.pair.b ∷ list.now.rest.list.items) share.now.right }
+    requires listed { list.now.splits ≡ all_listed share.now.per_n (splits list.now.rest.list.items) }
+    requires allowed { NameAllowed (V.allows visitor.old) (of_share ranking.now share.now list.now.rest.list.items) }
+    ensures { Takes V.allows V.state V.step (of_share ranking.now share.now list.now.rest.list.items) visitor.old visitor.new }
+{
+    let mut left = list.splits.len();
+    while left > 0 {
+        let (split, _) = list.splits.at(left);
+        walk_chosen(ranking, index, share, &split.chosen(), visitor);
+        left -= 1;
     }
 }
 
@@ -273,8 +298,12 @@ pub(crate) fn walk_share<const N: usize, V: TermVisitor>(
 {
     ranking.is_small();
     let share = Share::of(ranking, genus, &list.rest, pair, k);
-    if list.whole && share.low == share.high && share.low.unsigned_abs() <= 1 << 29 {
-        walk_listed(ranking, index, &share, list, visitor);
+    if list.whole {
+        if share.low == share.high && share.low.unsigned_abs() <= 1 << 29 {
+            walk_listed(ranking, index, &share, list, visitor);
+        } else {
+            walk_whole(ranking, index, &share, list, visitor);
+        }
         return;
     }
     let chosen = Chosen {

@@ -1,12 +1,12 @@
 // All splits of what is left of a key, listed once a pivot. Where the shape has one excess for the part of each product, an entry of
 // C and a genus meet the splits of that excess in their order, and no other.
-ghost use Rattle.std.specs.Prelude.{◌≡◌, ◌≤◌, ◌<◌, ◌+◌, ◌*◌, ◌^◌, ◌++◌, ◌∷◌, ℕ, List, true, length};
+ghost use Rattle.std.specs.Prelude.{◌≡◌, ◌≤◌, ◌<◌, ◌+◌, ◌*◌, ◌^◌, ◌++◌, ◌∷◌, [], ℕ, List, true, length};
 ghost use Rattle.std.specs.Int.RustNames.{unsigned_abs};
 ghost use Rattle.airy_math.specs.Shapes.{per_n as shape_per_n};
 ghost use Rattle.airy_math.specs.Splits.{Split, splits};
 ghost use Rattle.amp_plan.specs.Rests.{IsRest};
-ghost use Rattle.amp_plan.specs.declared.share.Chosen.{Chosen as ChosenNumbers};
-ghost use Rattle.amp_plan.specs.SplitLists.{chain, numbers_of, taken_so, going_on, all_listed, CanBeListed};
+ghost use Rattle.amp_plan.specs.declared.split_list.Listed.{Listed as ListedNumbers};
+ghost use Rattle.amp_plan.specs.SplitLists.{chain, listed_of, chosen_of, numbers_of, taken_so, going_on, all_listed, CanBeListed};
 
 use crate::measure::{Measure, above_zero, per_n};
 use crate::ranking::Ranking;
@@ -16,12 +16,55 @@ use airy_index::Shape;
 use item_chains::Chains;
 use key_index::KeyIndex;
 
+/// What is listed of a split: the measure of its part, and the number of ways. A list stands on the stack, so its numbers are short.
+#[derive(Clone, Copy, Default)]
+pub(crate) struct Listed {
+    code: u64,
+    ways: u32,
+    excess: i32,
+    places: u8,
+}
+
+impl Listed {
+    /// What is listed of a part that was chosen.
+    #[tactic(auto, unfolding(crate::specs::SplitLists::listed_of))]
+    fn of(chosen: &Chosen) -> Listed
+        requires excess { unsigned_abs chosen.now.part.excess ≤ 2 ^ 29 }
+        requires ways { chosen.now.ways ≤ 2 ^ 25 }
+        ensures { result ≡ listed_of chosen.now }
+    {
+        Listed {
+            code: chosen.part.code,
+            ways: chosen.ways as u32,
+            excess: chosen.part.excess as i32,
+            places: chosen.part.places,
+        }
+    }
+
+    /// The part, of which nothing is left to choose.
+    #[tactic(auto, unfolding(crate::specs::SplitLists::chosen_of))]
+    pub(crate) fn chosen(&self) -> Chosen
+        ensures { result ≡ chosen_of self.now }
+    {
+        Chosen {
+            part: Measure {
+                excess: i64::from(self.excess),
+                code: self.code,
+                places: self.places,
+            },
+            ways: u64::from(self.ways),
+            gain: 0,
+            loss: 0,
+        }
+    }
+}
+
 /// What is left of a key, with its splits where they are listed.
 #[derive(Drop)]
 pub(crate) struct SplitList<const N: usize> {
     pub(crate) rest: Rest,
-    /// The parts of the splits in their order, each with the chain of its excess.
-    pub(crate) splits: Chains<Chosen, N>,
+    /// The splits in their order, each with the chain of its part's excess.
+    pub(crate) splits: Chains<Listed, N>,
     /// Whether all splits are listed.
     pub(crate) whole: bool,
 }
@@ -38,23 +81,23 @@ pub(crate) fn chain_of(excess: i64) -> u8
 
 /// Takes the splits of a list, the last of them first.
 pub(crate) trait SplitTaker {
-    ghost holds: { Self → List (ℕ × ChosenNumbers) };
+    ghost holds: { Self → List (ℕ × ListedNumbers) };
 
     /// Puts a split before the others, with the chain of its excess, and answers true; false where there is no room.
-    fn put(&mut self, chain: u8, chosen: Chosen) -> bool
+    fn put(&mut self, chain: u8, split: Listed) -> bool
         requires { chain < 64 }
-        ensures { result ≡ true → holds self.new ≡ (chain, chosen) ∷ holds self.old };
+        ensures { result ≡ true → holds self.new ≡ (chain, split) ∷ holds self.old };
 }
 
-impl<const N: usize> SplitTaker for Chains<Chosen, N> {
+impl<const N: usize> SplitTaker for Chains<Listed, N> {
     ghost holds = { λ c. c };
 
-    fn put(&mut self, chain: u8, chosen: Chosen) -> bool {
+    fn put(&mut self, chain: u8, split: Listed) -> bool {
         // no room is larger
         if N > 2048 {
             return false;
         }
-        self.put_first(chain, chosen)
+        self.put_first(chain, split)
     }
 }
 
@@ -73,7 +116,7 @@ fn list_splits<L: SplitTaker>(
     ensures { (s : Split) → chosen.now ≡ numbers_of per_n (taken_so s left.now 0) → result ≡ true → L.holds listed.new ≡ all_listed per_n (going_on s left.now 0) ++ L.holds listed.old }
 {
     if left.is_empty() {
-        return listed.put(chain_of(chosen.part.excess), *chosen);
+        return listed.put(chain_of(chosen.part.excess), Listed::of(chosen));
     }
     list_copies(index, per_n, left, chosen, 0, listed)
 }
@@ -108,22 +151,17 @@ fn list_copies<L: SplitTaker>(
 }
 
 impl<const N: usize> SplitList<N> {
-    /// Of what is left of a key, at most 25 indices. Without room no split is listed.
-    #[inline(always)]
-    pub(crate) fn of(ranking: &Ranking, rest: Rest) -> SplitList<N>
-        requires rest { IsRest (shape_per_n ranking.now.tensors.shape) rest }
-        requires few { length rest.list.items ≤ 25 }
-        requires room { N < 2 ^ 16 }
-        ensures rest { result.rest ≡ rest }
-        ensures listed { result.whole ≡ true → result.splits ≡ all_listed (shape_per_n ranking.now.tensors.shape) (splits result.rest.list.items) }
+    /// Lists the splits. Without room none is listed.
+    pub(crate) fn list_all(&mut self, ranking: &Ranking)
+        requires rest { IsRest (shape_per_n ranking.now.tensors.shape) self.old.rest }
+        requires few { length self.old.rest.list.items ≤ 25 }
+        requires none { self.old.splits ≡ [] }
+        ensures rest { self.new.rest ≡ self.old.rest }
+        ensures listed { self.new.whole ≡ true → self.new.splits ≡ all_listed (shape_per_n ranking.now.tensors.shape) (splits self.new.rest.list.items) }
     {
-        let mut splits = Chains::new();
+        self.whole = false;
         if N == 0 {
-            return SplitList {
-                rest,
-                splits,
-                whole: false,
-            };
+            return;
         }
         ranking.tensors().soundness_fact();
         let per_n = per_n(ranking.tensors().shape());
@@ -137,26 +175,22 @@ impl<const N: usize> SplitList<N> {
             gain: 0,
             loss: 0,
         };
-        let whole = list_splits(
+        self.whole = list_splits(
             ranking.index(),
             per_n,
-            rest.runs.as_slice(),
+            self.rest.runs.as_slice(),
             &none,
-            &mut splits,
+            &mut self.splits,
         );
-        SplitList {
-            rest,
-            splits,
-            whole,
-        }
     }
 }
 
-/// How many splits are to be listed, and none where the shape isn't exact or there is no entry of C.
+/// How many splits are to be listed. None where there is no entry of C, or where the shape has a bound for the excess: there a walk
+/// passes over most of them.
 pub(crate) fn splits_to_list(ranking: &Ranking, pivot: u8, rest: &Rest) -> u32 {
-    let Shape::Exact(_) = ranking.tensors().shape() else {
+    if let Shape::AtMost(_) = ranking.tensors().shape() {
         return 0;
-    };
+    }
     if ranking.tensors().row_c(pivot).is_empty() {
         return 0;
     }

@@ -23,6 +23,7 @@ use crate::visitor::TermVisitor;
 use airy_index::{Key, Split, Splits};
 use arrayvec::ArrayVec;
 use frac128::Frac;
+use item_chains::Chains;
 
 /// The list without its first x.
 fn without(list: &[u8], x: u8) -> ArrayVec<u8, 26>
@@ -131,8 +132,11 @@ fn walk_c<V: TermVisitor>(ranking: &Ranking, genus: u8, pivot: u8, rest: Rest, v
 {
     match splits_to_list(ranking, pivot, &rest) {
         1..=64 => walk_in_room::<64, V>(ranking, genus, pivot, rest, visitor),
-        65..=256 => walk_in_room::<256, V>(ranking, genus, pivot, rest, visitor),
-        257..=2048 => walk_in_room::<2048, V>(ranking, genus, pivot, rest, visitor),
+        65..=128 => walk_in_room::<128, V>(ranking, genus, pivot, rest, visitor),
+        129..=256 => walk_in_room::<256, V>(ranking, genus, pivot, rest, visitor),
+        257..=512 => walk_in_room::<512, V>(ranking, genus, pivot, rest, visitor),
+        513..=1024 => walk_in_room::<1024, V>(ranking, genus, pivot, rest, visitor),
+        1025..=2048 => walk_in_room::<2048, V>(ranking, genus, pivot, rest, visitor),
         _ => walk_in_room::<0, V>(ranking, genus, pivot, rest, visitor),
     }
 }
@@ -153,7 +157,12 @@ fn walk_in_room<const N: usize, V: TermVisitor>(
     ensures { Takes V.allows V.state V.step (c_part ranking.now pivot genus rest.list.items) visitor.old visitor.new }
 {
     ranking.is_small();
-    let list = SplitList::<N>::of(ranking, rest);
+    let mut list = SplitList::<N> {
+        rest,
+        splits: Chains::new(),
+        whole: false,
+    };
+    list.list_all(ranking);
     let row = ranking.tensors().row_c(pivot);
     for entry in row {
         walk_entry(ranking, genus, &list, *entry, visitor);

@@ -1,11 +1,22 @@
 -- Seats of a countdown board before and behind some asks, and the table that the board leaves.
-use Rattle.std.proofs.Common.{◌≡◌, ◌⊎◌, inl, inr, ℕ, ◌<◌, Bool, true, false, List, [], ◌∷◌, ◌++◌, length, get_or, Option, None, Some, refl, sym, ap, ◌∙◌, subst}
+use Rattle.std.proofs.Common.{◌≡◌, ◌⊎◌, inl, inr, ℕ, ◌<◌, Bool, true, false, List, [], ◌∷◌, ◌++◌, length, length-append, map, get_or, Option, None, Some, arith, refl, sym, ap, ◌∙◌, subst}
+use Rattle.std.proofs.Math.ListN.{get_or-map}
+use Rattle.std.proofs.Math.Seq.{get_or-append_seam}
+use Rattle.std.proofs.lemmas.List.{length-map}
+use Rattle.std.specs.Option.{is_some}
 use Rattle.std.specs.Prelude.{cond}
-use Rattle.amp_plan.specs.Plans.{Planning}
+use Rattle.amp_plan.specs.Plans.{Planning, tensors_of}
+use Rattle.amp_terms.specs.Outcomes.{outcomes}
+use Rattle.amp_terms.specs.Tables.{full_table}
+use Rattle.amp_terms.specs.declared.Outcome.TheVariants.{Over}
+use Rattle.amp_terms.proofs.OutcomeLemmas.{length-all}
+use Rattle.cell_words.specs.Countdown.{Known}
+use Rattle.cell_words.proofs.DealLemmas.{same_default}
+use Rattle.ask_seats.specs.Talks.{Carried}
 use Rattle.amp_terms.specs.declared.Outcome.{Outcome}
-use Rattle.cell_words.specs.Deals.{AreAll}
+use Rattle.cell_words.specs.Deals.{AreAll, SomeKnows}
 use Rattle.cell_words.specs.Layout.{cells, outcome_at, IsPartial}
-use Rattle.cell_words.specs.Seats.{IsSeatOf, standing_of}
+use Rattle.cell_words.specs.Seats.{IsSeatOf, standing_of, view_of}
 use Rattle.cell_words.specs.declared.view.Standing.{Standing}
 use Rattle.cell_words.specs.declared.countdown.Countdown.{Countdown}
 use Rattle.cell_words.specs.declared.countdown.CountSeat.{CountSeat}
@@ -33,3 +44,37 @@ partial_is p t f long h = record { long = long; each = λ r l. by r (f r) (h r l
     by : (r : ℕ) (b : Bool) → get_or t r None ≡ cond b (Some (outcome_at p r)) None → (get_or t r None ≡ None) ⊎ (get_or t r None ≡ Some (outcome_at p r))
     by r true e = inr e
     by r false e = inl e
+
+-- what each of some seats has, the last has
+pub last_has : (P : CountSeat → Type 0) (made rest : List CountSeat) (own : CountSeat) → made ≡ rest ++ own ∷ [] → ((j : ℕ) (d : CountSeat) → j < length made → P (get_or made j d)) → P own
+last_has P made rest own is each =
+    subst P (ap (λ ss. get_or ss (length rest) own) is ∙ get_or-append_seam rest own [] own) (each (length rest) own (omega (arith, ap length is, length-append rest (own ∷ []))))
+
+-- and what the last knows, one of them knows
+pub last_known : (ss rest : List CountSeat) (own : CountSeat) (r : ℕ) → ss ≡ rest ++ own ∷ [] → Known (view_of own) r → SomeKnows ss r
+last_known ss rest own r is k = (
+  length rest,
+  omega (arith, ap length is, length-append rest (own ∷ [])),
+  λ d. subst (λ s. Known (view_of s) r) (sym (ap (λ xs. get_or xs (length rest) d) is ∙ get_or-append_seam rest own [] d)) k,
+)
+
+-- ---- a full table
+
+full_at : (p : Planning) (t : List (Option Outcome)) → t ≡ full_table (tensors_of p) p.bound → (r : ℕ) → r < cells p → get_or t r None ≡ Some (outcome_at p r)
+unfolding full_table outcome_at
+full_at p t e r l =
+    let os = outcomes (tensors_of p) p.bound in
+    let many : length (map (λ o. Some o) os) ≡ cells p = length-map os (λ o. Some o) ∙ length-all p in
+    ap (λ u. get_or u r None) e ∙ same_default (map (λ o. Some o) os) r None (Some Over) (omega (arith, l, many)) ∙ get_or-map (λ o. Some o) os r Over
+
+-- it is one of a plan,
+pub full_partial : (p : Planning) (t : List (Option Outcome)) → t ≡ full_table (tensors_of p) p.bound → IsPartial p t
+unfolding full_table
+full_partial p t e = record {
+  long = ap length e ∙ length-map (outcomes (tensors_of p) p.bound) (λ o. Some o) ∙ length-all p;
+  each = λ r l. inr (full_at p t e r l);
+}
+
+-- and carries every rank
+pub full_carries : (p : Planning) (t : List (Option Outcome)) → t ≡ full_table (tensors_of p) p.bound → (r : ℕ) → r < cells p → Carried t r
+full_carries p t e r l = ap is_some (full_at p t e r l)

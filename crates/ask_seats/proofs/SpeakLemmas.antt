@@ -1,6 +1,6 @@
 -- What a session says is admitted.
-use Rattle.std.proofs.Common.{◌≡◌, ◌≢◌, ◌⊎◌, inl, inr, ℕ, ◌<◌, ◌≤◌, Bool, true, false, List, [], ◌∷◌, ◌++◌, Option, Some, None, arith, refl, sym, ap, ◌∙◌, subst, append_assoc}
-use Rattle.std.proofs.lemmas.Bool.{cases_lt, and_parts, ltb-true, ltb-false, lt-ltb}
+use Rattle.std.proofs.Common.{true≢false, ◌≡◌, ◌≢◌, ◌⊎◌, inl, inr, ℕ, ◌<◌, ◌≤◌, Bool, true, false, List, [], ◌∷◌, ◌++◌, Option, Some, None, arith, refl, sym, ap, ◌∙◌, subst, append_assoc}
+use Rattle.std.proofs.lemmas.Bool.{cases_lt, and_parts, ltb-true, ltb-false, lt-ltb, le-ltb}
 use Rattle.std.specs.Prelude.{cond, ◌&&◌, nat_eq, IsTrue}
 use lib.Dec.{ltb}
 use lib.ListN.{get_or}
@@ -8,7 +8,9 @@ use Rattle.airy_math.specs.Keys.{Key}
 use Rattle.airy_math.specs.Levels.{euler_of}
 use Rattle.airy_math.specs.Shapes.{covers}
 use Rattle.airy_math.specs.Tensors.{Tensors}
-use Rattle.airy_math.specs.Planned.{planned}
+use Rattle.airy_math.specs.Planned.{planned, IsPlanned}
+use Rattle.airy_math.proofs.NeedsLaw.{needs_first}
+use Rattle.amp_plan.specs.Limits.{limit}
 use Rattle.airy_math.specs.Ranks.{ListsPlanned, place_of}
 use Rattle.airy_math.specs.Terms.{StandsIn, RestsOn}
 use Rattle.airy_index.specs.Fields.{IsKey}
@@ -21,32 +23,37 @@ use Rattle.amp_terms.specs.declared.Outcome.TheVariants as outcome
 use Rattle.amp_terms.specs.Outcomes.{outcomes}
 use Rattle.cell_words.specs.Layout.{cells}
 use Rattle.cell_words.specs.Looks.{Reaches}
-use Rattle.ask_seats.specs.Replies.{Reply, Value, Over, Blocked, NotYet, Zero, Beyond, BadIndex, line_text, lines_text}
-use Rattle.ask_seats.specs.Sessions.{Session, Stage, Replied, IsAdmitted, finish, behind, told, told_at, outcome_reply, place_at, is_rank, is_open, is_unsettled}
-use Rattle.ask_seats.specs.Asks.{session_of}
-use Rattle.ask_seats.specs.Talks.{told_of, Hears, tells, waits, Stands, stage_after}
+use Rattle.ask_seats.specs.Replies.{Reply, Value, Over, Blocked, NotYet, Zero, Beyond, BadIndex, GrownTo, ManyCells, ManyNeeds, line_text, lines_text}
+use Rattle.ask_seats.specs.Sessions.{Session, Stage, Replied, IsAdmitted, IsOrRestsOn, start, finish, growth, grown, bound_after, behind, told, told_at, outcome_reply, place_at, is_rank, is_open, is_unsettled}
+use Rattle.ask_seats.specs.Asks.{session_of, Rises}
+use Rattle.ask_seats.specs.Talks.{told_of, holds_back, Hears, tells, misses, waits, IsGood, Stands, stage_after}
 use Rattle.command_words.specs.declared.line.Line.{Line}
-use Rattle.command_words.specs.declared.line.Line.TheVariants.{Ask, Finish}
+use Rattle.command_words.specs.declared.line.Line.TheVariants.{Ask, Finish, Grow}
 use Rattle.amp_plan.proofs.PlaceLemmas.{at_rank, rank_within, key_of_rank}
 use Rattle.ask_seats.proofs.PlaceLemmas.{same_place}
+use Rattle.ask_seats.proofs.ReplyLemmas.{behind-bound, grows-up, rises-lower}
 
 -- ---- lists of replies
 
-pub replied-append : (P : Stage → Key → Reply → Type 0) (st : Stage) (ls ms : List Line) (rs qs : List Reply) → Replied P st ls rs → Replied P (stage_after st ls rs) ms qs → Replied P st (ls ++ ms) (rs ++ qs)
+pub replied-append : (T : Tensors) (P : Stage → Key → Reply → Type 0) (st : Stage) (ls ms : List Line) (rs qs : List Reply) → Replied T P st ls rs → Replied T P (stage_after T st ls rs) ms qs → Replied T P st (ls ++ ms) (rs ++ qs)
 unfolding Replied stage_after
-replied-append P st [] ms [] qs h k = k
-replied-append P st [] ms (r ∷ rs) qs h k = absurd h
-replied-append P st (Finish ∷ ls) ms rs qs h k = replied-append P (finish st) ls ms rs qs h k
-replied-append P st (Ask key ∷ ls) ms [] qs h k = absurd h
-replied-append P st (Ask key ∷ ls) ms (r ∷ rs) qs h k = (h.0, replied-append P (behind st key r) ls ms rs qs h.1 k)
+replied-append T P st [] ms [] qs h k = k
+replied-append T P st [] ms (r ∷ rs) qs h k = absurd h
+replied-append T P st (Finish ∷ ls) ms rs qs h k = replied-append T P (finish st) ls ms rs qs h k
+replied-append T P st (Ask key ∷ ls) ms [] qs h k = absurd h
+replied-append T P st (Ask key ∷ ls) ms (r ∷ rs) qs h k = (h.0, replied-append T P (behind st key r) ls ms rs qs h.1 k)
+replied-append T P st (Grow Y ∷ ls) ms [] qs h k = absurd h
+replied-append T P st (Grow Y ∷ ls) ms (r ∷ rs) qs h k = (h.0, replied-append T P (grown T Y st) ls ms rs qs h.1 k)
 
-pub after-append : (P : Stage → Key → Reply → Type 0) (st : Stage) (ls ms : List Line) (rs qs : List Reply) → Replied P st ls rs → stage_after st (ls ++ ms) (rs ++ qs) ≡ stage_after (stage_after st ls rs) ms qs
+pub after-append : (T : Tensors) (P : Stage → Key → Reply → Type 0) (st : Stage) (ls ms : List Line) (rs qs : List Reply) → Replied T P st ls rs → stage_after T st (ls ++ ms) (rs ++ qs) ≡ stage_after T (stage_after T st ls rs) ms qs
 unfolding Replied stage_after
-after-append P st [] ms [] qs h = refl
-after-append P st [] ms (r ∷ rs) qs h = absurd h
-after-append P st (Finish ∷ ls) ms rs qs h = after-append P (finish st) ls ms rs qs h
-after-append P st (Ask key ∷ ls) ms [] qs h = absurd h
-after-append P st (Ask key ∷ ls) ms (r ∷ rs) qs h = after-append P (behind st key r) ls ms rs qs h.1
+after-append T P st [] ms [] qs h = refl
+after-append T P st [] ms (r ∷ rs) qs h = absurd h
+after-append T P st (Finish ∷ ls) ms rs qs h = after-append T P (finish st) ls ms rs qs h
+after-append T P st (Ask key ∷ ls) ms [] qs h = absurd h
+after-append T P st (Ask key ∷ ls) ms (r ∷ rs) qs h = after-append T P (behind st key r) ls ms rs qs h.1
+after-append T P st (Grow Y ∷ ls) ms [] qs h = absurd h
+after-append T P st (Grow Y ∷ ls) ms (r ∷ rs) qs h = after-append T P (grown T Y st) ls ms rs qs h.1
 
 pub text-append : (rs qs : List Reply) → lines_text (rs ++ qs) ≡ lines_text rs ++ lines_text qs
 unfolding lines_text
@@ -63,6 +70,9 @@ is_told (Blocked key) = true
 is_told Zero = true
 is_told Beyond = true
 is_told BadIndex = true
+is_told (GrownTo X) = true
+is_told (ManyCells e) = true
+is_told (ManyNeeds key) = true
 
 not_not_yet : (r : Reply) → is_told r ≡ true → r ≡ NotYet → ⊥
 unfolding is_told
@@ -99,16 +109,31 @@ behind-told st T letter X key place.Zero = refl
 behind-told st T letter X key place.Beyond = refl
 behind-told st T letter X key place.BadIndex = refl
 
--- a planned key is settled behind a `finish` at its bound
-planned_within : (T : Tensors) (X : ℕ) (key : Key) → is_rank (place_at T X key) ≡ true → ltb X (euler_of key) ≡ true → ⊥
+-- a planned key's Euler number is within the bound
+pub planned_within : (T : Tensors) (X : ℕ) (key : Key) → is_rank (place_at T X key) ≡ true → euler_of key ≤ X
 unfolding place_at is_rank
-planned_within T X key h e = let clash : false ≡ true = rw e at h in cc
+planned_within T X key h = by (ltb X (euler_of key)) refl
+  where
+    by : (b : Bool) → ltb X (euler_of key) ≡ b → euler_of key ≤ X
+    by true e = absurd (let clash : false ≡ true = rw e at h in cc)
+    by false e = ltb-false X (euler_of key) e
 
-all_settled : (s : Session) (st : Stage) (key : Key) → st.finished ≡ Some st.bound → is_unsettled s st key ≡ true → ⊥
-unfolding is_unsettled is_open
-all_settled s st key e u =
-    let h = and_parts (is_rank (place_at s.tensors st.bound key)) (is_open st.finished (euler_of key)) u in
-    planned_within s.tensors st.bound key h.0 (sym (ap (λ o. is_open o (euler_of key)) e) ∙ h.1)
+-- what is settled is so at lower Euler numbers, too
+open-higher : (o : Option ℕ) (d e : ℕ) → d ≤ e → is_open o d ≡ true → is_open o e ≡ true
+unfolding is_open
+open-higher None d e h is = refl
+open-higher (Some X) d e h is = let l = ltb-true X d is in lt-ltb X e (omega arith)
+
+-- what a planned key rests on has a smaller Euler number
+pub lower : (T : Tensors) (X : ℕ) (other key : Key) → IsPlanned T X other → IsOrRestsOn T other key → euler_of key ≤ euler_of other
+lower T X other key is (inl e) = subst (λ k. euler_of key ≤ euler_of k) (sym e) (omega arith)
+lower T X other key is (inr r) = let l = ((needs_first T X other is).rests key r).smaller in omega arith
+
+-- a key that is not settled isn't one that was given without workers, nor does such a key rest on it
+not_quiet : (s : Session) (st : Stage) (key : Key) → IsGood s st → s.crew ≡ 0 → is_open st.finished (euler_of key) ≡ true
+    → (other : Key) → IsPlanned s.tensors st.bound other → StandsIn other st.given → IsOrRestsOn s.tensors other key → ⊥
+not_quiet s st key g none is other planned_other i reach =
+    true≢false (sym (open-higher st.finished (euler_of key) (euler_of other) (lower s.tensors st.bound other key planned_other reach) is) ∙ g.quiet none other i)
 
 some_rank : (x : Place) → is_rank x ≡ true → (r : ℕ) × (x ≡ place.At r)
 unfolding is_rank
@@ -124,29 +149,63 @@ rank_is p r lists low = lists.once r low
 
 -- ---- one reply
 
-module _ (p : Planning) (crew : ℕ) (alone : Bool) (lists : ListsPlanned (tensors_of p) p.bound) where
+held : (crew : ℕ) (o : Option ℕ) (e : ℕ) → crew ≡ 0 → is_open o e ≡ true → holds_back crew o e ≡ true
+held crew o e none is = rw (none, is) refl
+
+held_none : (crew : ℕ) (o : Option ℕ) (e : ℕ) → holds_back crew o e ≡ true → crew ≡ 0
+held_none crew o e h = let parts = and_parts (nat_eq crew 0) (is_open o e) h in grind (arith, parts)
+
+-- a stage at which one planned key more is given
+pub good-more : (s : Session) (st : Stage) (key : Key) → IsGood s st → euler_of key ≤ st.bound → (s.crew ≡ 0 → is_open st.finished (euler_of key) ≡ false) → IsGood s (record st { given = key ∷ st.given })
+unfolding StandsIn
+good-more s st key g within quiet = record {
+  low = λ other i. low other i;
+  finished = g.finished;
+  quiet = λ none other i. shut none other i;
+}
+  where
+    low : (other : Key) → (other ≡ key) ⊎ StandsIn other st.given → euler_of other ≤ st.bound
+    low other (inl e) = subst (λ k. euler_of k ≤ st.bound) (sym e) within
+    low other (inr i) = g.low other i
+
+    shut : s.crew ≡ 0 → (other : Key) → (other ≡ key) ⊎ StandsIn other st.given → is_open st.finished (euler_of other) ≡ false
+    shut none other (inl e) = ap (λ k. is_open st.finished (euler_of k)) e ∙ quiet none
+    shut none other (inr i) = g.quiet none other i
+
+module _ (p : Planning) (crew : ℕ) (finished : Option ℕ) (lists : ListsPlanned (tensors_of p) p.bound) where
   -- what a seat stands for it stands for when it knows more
-  more : (Knew Knows : ℕ → Type 0) (st : Stage) → Stands p crew alone Knew st → ((r : ℕ) → Knew r → Knows r) → Stands p crew alone Knows st
+  more : (Knew Knows : ℕ → Type 0) (st : Stage) → Stands p crew Knew st → ((r : ℕ) → Knew r → Knows r) → Stands p crew Knows st
   more Knew Knows st h k = record {
     bound = h.bound;
+    planned = h.planned;
     given = λ other r i low e. k r (h.given other r i low e);
     settled = λ X r e low w. k r (h.settled X r e low w);
-    none = h.none;
-    busy = h.busy;
+    good = h.good;
   }
 
+  rank_planned : (r : ℕ) → r < cells p → IsPlanned (tensors_of p) p.bound (key_at p r)
+  unfolding keys_of key_at
+  rank_planned r low = lists.only r low
+
   -- a stage at which one key more is given, which the seat knows with all that it rests on
-  one_more : (Knew Knows : ℕ → Type 0) (st : Stage) (key : Key) (r : ℕ) → Stands p crew alone Knew st → ((q : ℕ) → Knew q → Knows q) → key_at p r ≡ key → r < cells p
-      → ((q : ℕ) → q < cells p → Reaches p r q → Knows q) → (IsTrue alone → ⊥) → Stands p crew alone Knows (record st { given = key ∷ st.given })
-  unfolding StandsIn
-  one_more Knew Knows st key r h k is low known busy = record {
+  one_more : (Knew Knows : ℕ → Type 0) (st : Stage) (key : Key) (r : ℕ) → Stands p crew Knew st → ((q : ℕ) → Knew q → Knows q) → key_at p r ≡ key → r < cells p
+      → ((q : ℕ) → q < cells p → Reaches p r q → Knows q) → (crew ≡ 0 → is_open st.finished (euler_of key) ≡ false) → Stands p crew Knows (record st { given = key ∷ st.given })
+  unfolding StandsIn euler_of
+  one_more Knew Knows st key r h k is low known quiet = record {
     bound = h.bound;
+    planned = λ other i. is_planned other i;
     given = λ other q i low' e. by other q low' i e;
     settled = λ X q e low' w. k q (h.settled X q e low' w);
-    none = λ a. absurd (busy a);
-    busy = h.busy;
+    good = good-more (session_of p crew) st key h.good (subst (λ X. euler_of key ≤ X) (sym h.bound) here.within) quiet;
   }
     where
+      here : IsPlanned (tensors_of p) p.bound key
+      here = subst (IsPlanned (tensors_of p) p.bound) is (rank_planned r low)
+
+      is_planned : (other : Key) → (other ≡ key) ⊎ StandsIn other st.given → IsPlanned (tensors_of p) p.bound other
+      is_planned other (inl e) = subst (IsPlanned (tensors_of p) p.bound) (sym e) here
+      is_planned other (inr i) = h.planned other i
+
       once : (q : ℕ) → q < cells p → key_at p r ≡ key_at p q → r ≡ q
       once q low' e = sym (rank_is p r lists low) ∙ ap (λ k. place_of k (keys_of p)) e ∙ rank_is p q lists low'
 
@@ -158,138 +217,192 @@ module _ (p : Planning) (crew : ℕ) (alone : Bool) (lists : ListsPlanned (tenso
   place_here : (st : Stage) (key : Key) → st.bound ≡ p.bound → place_in p key ≡ place_at (tensors_of p) st.bound key
   place_here st key e = same_place p key ∙ ap (λ X. place_at (tensors_of p) X key) (sym e)
 
-  -- what is told, with nothing that is not settled where there are no workers
-  quiet : (Knew : ℕ → Type 0) (key : Key) (st : Stage) (b : Bool) → alone ≡ b → Stands p crew alone Knew st → (IsTrue alone → (r : ℕ) → place_in p key ≡ place.At r → ⊥)
-      → crew ≡ 0 → is_unsettled (session_of p crew) st key ≡ true → ⊥
-  unfolding is_unsettled
-  quiet Knew key st true a h lone none u =
-      let rank = some_rank (place_at (tensors_of p) st.bound key) (and_parts (is_rank (place_at (tensors_of p) st.bound key)) (is_open st.finished (euler_of key)) u).0 in
-      lone a rank.0 (place_here st key h.bound ∙ rank.1)
-  quiet Knew key st false a h lone none u = all_settled (session_of p crew) st key (h.busy a none ∙ ap Some (sym h.bound)) u
+  -- a planned key that is told is settled, where there are no workers
+  quiet : (key : Key) (r : ℕ) → place_in p key ≡ place.At r → (holds_back crew finished (euler_of key) ≡ true → (r : ℕ) → place_in p key ≡ place.At r → ⊥) → crew ≡ 0 → is_open finished (euler_of key) ≡ false
+  quiet key r at lone none = by (is_open finished (euler_of key)) refl
+    where
+      by : (b : Bool) → is_open finished (euler_of key) ≡ b → b ≡ false
+      by true e = absurd (lone (held crew finished (euler_of key) none e) r at)
+      by false e = refl
 
-  next : (Knew Knows : ℕ → Type 0) (key : Key) (st : Stage) (x : Place) → place_in p key ≡ x → IsKey key.g key.idx → Stands p crew alone Knew st → ((q : ℕ) → Knew q → Knows q)
-      → ((r q : ℕ) → place_in p key ≡ place.At r → q < cells p → Reaches p r q → Knows q) → (IsTrue alone → (r : ℕ) → place_in p key ≡ place.At r → ⊥)
-      → Stands p crew alone Knows (cond (is_rank x) (record st { given = key ∷ st.given }) st)
+  next : (Knew Knows : ℕ → Type 0) (key : Key) (st : Stage) (x : Place) → place_in p key ≡ x → IsKey key.g key.idx → Stands p crew Knew st → st.finished ≡ finished → ((q : ℕ) → Knew q → Knows q)
+      → ((r q : ℕ) → place_in p key ≡ place.At r → q < cells p → Reaches p r q → Knows q) → (holds_back crew finished (euler_of key) ≡ true → (r : ℕ) → place_in p key ≡ place.At r → ⊥)
+      → Stands p crew Knows (cond (is_rank x) (record st { given = key ∷ st.given }) st)
   unfolding is_rank
-  next Knew Knows key st (place.At r) e is h k known lone =
-      one_more Knew Knows st key r h k (key_of_rank p key r lists is e) (rank_within p key r lists is e) (λ q low reach. known r q e low reach) (λ a. lone a r e)
-  next Knew Knows key st place.Zero e is h k known lone = more Knew Knows st h k
-  next Knew Knows key st place.Beyond e is h k known lone = more Knew Knows st h k
-  next Knew Knows key st place.BadIndex e is h k known lone = more Knew Knows st h k
+  next Knew Knows key st (place.At r) e is h f k known lone =
+      one_more Knew Knows st key r h k (key_of_rank p key r lists is e) (rank_within p key r lists is e) (λ q low reach. known r q e low reach)
+      (λ none. ap (λ o. is_open o (euler_of key)) f ∙ quiet key r e lone none)
+  next Knew Knows key st place.Zero e is h f k known lone = more Knew Knows st h k
+  next Knew Knows key st place.Beyond e is h f k known lone = more Knew Knows st h k
+  next Knew Knows key st place.BadIndex e is h f k known lone = more Knew Knows st h k
 
   -- what is not known is not settled
-  still_open : (Knew : ℕ → Type 0) (key : Key) (st : Stage) (r : ℕ) (b : Bool) → alone ≡ b → (o : Option ℕ) → st.finished ≡ o → Stands p crew alone Knew st → key_at p r ≡ key → r < cells p → (alone ≡ false → Knew r → ⊥) → is_open o (euler_of key) ≡ true
+  still_open : (Knew : ℕ → Type 0) (key : Key) (st : Stage) (r : ℕ) (o : Option ℕ) → st.finished ≡ o → Stands p crew Knew st → key_at p r ≡ key → r < cells p → (Knew r → ⊥) → is_open o (euler_of key) ≡ true
   unfolding is_open
-  still_open Knew key st r b a None f h is low unknown = refl
-  still_open Knew key st r true a (Some X) f h is low unknown = let clash : Some X ≡ None = sym f ∙ (h.none a).1 in cc
-  still_open Knew key st r false a (Some X) f h is low unknown = by (cases_lt X (euler_of key))
+  still_open Knew key st r None f h is low unknown = refl
+  still_open Knew key st r (Some X) f h is low unknown = by (cases_lt X (euler_of key))
     where
       by : (X < euler_of key) ⊎ (euler_of key ≤ X) → ltb X (euler_of key) ≡ true
       by (inl l) = lt-ltb X (euler_of key) l
-      by (inr l) = absurd (unknown a (h.settled X r f low (subst (λ k. euler_of k ≤ X) (sym is) l)))
+      by (inr l) = absurd (unknown (h.settled X r f low (subst (λ k. euler_of k ≤ X) (sym is) l)))
 
-  -- nor is it, or what rests on it, given
-  not_given : (Knew : ℕ → Type 0) (key : Key) (st : Stage) (r : ℕ) (b : Bool) → alone ≡ b → Stands p crew alone Knew st → key_at p r ≡ key → r < cells p → (alone ≡ false → Knew r → ⊥)
-      → (other : Key) → StandsIn other st.given → (other ≡ key) ⊎ RestsOn (tensors_of p) other key → ⊥
-  unfolding StandsIn
-  not_given Knew key st r true a h is low unknown other i reach = subst (StandsIn other) (h.none a).0 i
-  not_given Knew key st r false a h is low unknown other i reach = unknown a (h.given other r i low (subst (λ k. (other ≡ k) ⊎ RestsOn (tensors_of p) other k) (sym is) reach))
+  -- a planned key that is not settled
+  unsettled_at : (key : Key) (st : Stage) (r : ℕ) → st.bound ≡ p.bound → place_in p key ≡ place.At r → is_open st.finished (euler_of key) ≡ true → is_unsettled (session_of p crew) st key ≡ true
+  unfolding is_unsettled is_rank
+  unsettled_at key st r e at is = ap (λ b. b && is_open st.finished (euler_of key)) (ap is_rank (sym (place_here st key e) ∙ at)) ∙ is
+
+  -- and what that is, taken apart
+  unsettled_parts : (key : Key) (st : Stage) → st.bound ≡ p.bound → is_unsettled (session_of p crew) st key ≡ true → ((r : ℕ) × (place_in p key ≡ place.At r)) × (is_open st.finished (euler_of key) ≡ true)
+  unfolding is_unsettled
+  unsettled_parts key st e u =
+      let parts = and_parts (is_rank (place_at (tensors_of p) st.bound key)) (is_open st.finished (euler_of key)) u in
+      let rank = some_rank (place_at (tensors_of p) st.bound key) parts.0 in ((rank.0, place_here st key e ∙ rank.1), parts.1)
 
   -- what a session hears is admitted, and its seat stands behind it
-  pub hear-admitted : (Knew Knows : ℕ → Type 0) (key : Key) (reply : Reply) (st : Stage) → IsKey key.g key.idx → Stands p crew alone Knew st → ((r : ℕ) → Knew r → Knows r) → Hears p alone key Knew Knows reply
-      → IsAdmitted (session_of p crew) st key reply × Stands p crew alone Knows (behind st key reply)
-  unfolding told behind is_unsettled is_rank
-  hear-admitted Knew Knows key reply st is h k (tells e known lone) = (
+  pub hear-admitted : (Knew Knows : ℕ → Type 0) (key : Key) (reply : Reply) (st : Stage) → IsKey key.g key.idx → Stands p crew Knew st → st.finished ≡ finished → ((r : ℕ) → Knew r → Knows r)
+      → Hears p crew finished key Knew Knows reply → IsAdmitted (session_of p crew) st key reply × Stands p crew Knows (behind st key reply)
+  unfolding told behind
+  hear-admitted Knew Knows key reply st is h f k (tells e known lone) = (
     record {
       said = inl (e ∙ ap (λ X. told (tensors_of p) p.tensors.letter X key) (sym h.bound));
-      kept = λ f. absurd (told_tells (tensors_of p) p.tensors.letter p.bound key (sym e ∙ f));
-      alone = λ none u. absurd (quiet Knew key st alone refl h lone none u);
+      kept = λ n. absurd (told_tells (tensors_of p) p.tensors.letter p.bound key (sym e ∙ n));
+      alone = λ none u. let parts = unsettled_parts key st h.bound u in
+          absurd (lone (held crew finished (euler_of key) none (ap (λ o. is_open o (euler_of key)) (sym f) ∙ parts.1)) parts.0.0 parts.0.1);
     },
-    subst (λ r. Stands p crew alone Knows (behind st key r)) (sym e)
-        (subst (Stands p crew alone Knows) (sym (behind-told st (tensors_of p) p.tensors.letter p.bound key (place_at (tensors_of p) p.bound key)))
-        (next Knew Knows key st (place_at (tensors_of p) p.bound key) (same_place p key) is h k known lone)),
+    subst (λ r. Stands p crew Knows (behind st key r)) (sym e)
+        (subst (Stands p crew Knows) (sym (behind-told st (tensors_of p) p.tensors.letter p.bound key (place_at (tensors_of p) p.bound key)))
+        (next Knew Knows key st (place_at (tensors_of p) p.bound key) (same_place p key) is h f k known lone)),
   )
-  hear-admitted Knew Knows key reply st is h k (waits e r at unknown) =
-      let here = key_of_rank p key r lists is at in let low = rank_within p key r lists is at in
-      let rank : is_rank (place_at (tensors_of p) st.bound key) ≡ true = ap is_rank (sym (place_here st key h.bound) ∙ at) in
-      let unsettled : is_unsettled (session_of p crew) st key ≡ true = ap (λ b. b && is_open st.finished (euler_of key)) rank ∙ still_open Knew key st r alone refl st.finished refl h here low unknown in (
+  hear-admitted Knew Knows key reply st is h f k (misses e r at unknown) =
+      let here = key_of_rank p key r lists is at in let low = rank_within p key r lists is at in (
         record {
-          said = inr (e, unsettled);
-          kept = λ f other is_planned i reach. not_given Knew key st r alone refl h here low unknown other i reach;
+          said = inr (e, unsettled_at key st r h.bound at (still_open Knew key st r st.finished refl h here low unknown));
+          kept = λ n other is_planned i reach. unknown (h.given other r i low (subst (λ k. (other ≡ k) ⊎ RestsOn (tensors_of p) other k) (sym here) reach));
           alone = λ none u. e;
         },
-        subst (λ r. Stands p crew alone Knows (behind st key r)) (sym e) (more Knew Knows st h k),
+        subst (λ r. Stands p crew Knows (behind st key r)) (sym e) (more Knew Knows st h k),
+      )
+  hear-admitted Knew Knows key reply st is h f k (waits e r at back) =
+      let free = ap (λ o. is_open o (euler_of key)) f ∙ (and_parts (nat_eq crew 0) (is_open finished (euler_of key)) back).1 in (
+        record {
+          said = inr (e, unsettled_at key st r h.bound at free);
+          kept = λ n other is_planned i reach. not_quiet (session_of p crew) st key h.good (held_none crew finished (euler_of key) back) free other is_planned i reach;
+          alone = λ none u. e;
+        },
+        subst (λ r. Stands p crew Knows (behind st key r)) (sym e) (more Knew Knows st h k),
       )
 
 -- ---- whatever comes next
-
--- A session at a stage: without workers nothing that is not settled was given.
-unfoldable pub IsGood : Session → Stage → Type 0
-IsGood s st = s.crew ≡ 0 → ((st.finished ≡ None) × (st.given ≡ [])) ⊎ (st.finished ≡ Some st.bound)
 
 chosen : Bool → Reply → Reply
 chosen true r = NotYet
 chosen false r = r
 
-pub good-next : (s : Session) (st : Stage) (key : Key) (x : Place) → place_at s.tensors st.bound key ≡ x → (nat_eq s.crew 0 && is_unsettled s st key) ≡ false → IsGood s st
+good-told : (s : Session) (st : Stage) (key : Key) (x : Place) → place_at s.tensors st.bound key ≡ x → (nat_eq s.crew 0 && is_unsettled s st key) ≡ false → IsGood s st
     → IsGood s (cond (is_rank x) (record st { given = key ∷ st.given }) st)
-unfolding IsGood is_rank is_unsettled is_open
-good-next s st key (place.At r) e no_wait g = λ none. by none (g none)
+unfolding is_rank is_unsettled
+good-told s st key (place.At r) e no_wait g = good-more s st key g (planned_within s.tensors st.bound key (ap is_rank e)) (λ none. by none (is_open st.finished (euler_of key)) refl)
   where
-    waits_there : s.crew ≡ 0 → st.finished ≡ None → (nat_eq s.crew 0 && is_unsettled s st key) ≡ true
-    waits_there none f = rw (none, e, f) refl
+    by : s.crew ≡ 0 → (b : Bool) → is_open st.finished (euler_of key) ≡ b → b ≡ false
+    by none true f = let clash : false ≡ true = sym no_wait ∙ rw (none, e, f) refl in cc
+    by none false f = refl
+good-told s st key place.Zero e no_wait g = g
+good-told s st key place.Beyond e no_wait g = g
+good-told s st key place.BadIndex e no_wait g = g
 
-    by : s.crew ≡ 0 → ((st.finished ≡ None) × (st.given ≡ [])) ⊎ (st.finished ≡ Some st.bound) → ((st.finished ≡ None) × ((key ∷ st.given) ≡ [])) ⊎ (st.finished ≡ Some st.bound)
-    by none (inl f) = let clash : false ≡ true = sym no_wait ∙ waits_there none f.0 in cc
-    by none (inr f) = inr f
-good-next s st key place.Zero e no_wait g = g
-good-next s st key place.Beyond e no_wait g = g
-good-next s st key place.BadIndex e no_wait g = g
+unsettled_open : (s : Session) (st : Stage) (key : Key) → is_unsettled s st key ≡ true → is_open st.finished (euler_of key) ≡ true
+unfolding is_unsettled
+unsettled_open s st key u = (and_parts (is_rank (place_at s.tensors st.bound key)) (is_open st.finished (euler_of key)) u).1
 
 good-step : (s : Session) (st : Stage) (key : Key) (b : Bool) → (nat_eq s.crew 0 && is_unsettled s st key) ≡ b → IsGood s st
     → IsAdmitted s st key (chosen b (told s.tensors s.letter st.bound key)) × IsGood s (behind st key (chosen b (told s.tensors s.letter st.bound key)))
-unfolding chosen told behind IsGood StandsIn is_unsettled
+unfolding chosen told behind
 good-step s st key true e g =
     let parts = and_parts (nat_eq s.crew 0) (is_unsettled s st key) e in
     let none : s.crew ≡ 0 = grind (arith, parts) in (
-      record { said = inr (refl, parts.1); kept = λ f other is_planned i reach. by other i (g none); alone = λ _ _. refl },
+      record { said = inr (refl, parts.1); kept = λ f other is_planned i reach. not_quiet s st key g none (unsettled_open s st key parts.1) other is_planned i reach; alone = λ _ _. refl },
       g,
     )
-  where
-    by : (other : Key) → StandsIn other st.given → ((st.finished ≡ None) × (st.given ≡ [])) ⊎ (st.finished ≡ Some st.bound) → ⊥
-    by other i (inl f) = subst (StandsIn other) f.1 i
-    by other i (inr f) = all_settled s st key f (and_parts (nat_eq s.crew 0) (is_unsettled s st key) e).1
 good-step s st key false e g = (
   record {
     said = inl refl;
     kept = λ f. absurd (told_tells s.tensors s.letter st.bound key f);
     alone = λ none u. let clash : false ≡ true = sym e ∙ both none u in absurd cc;
   },
-  subst (IsGood s) (sym (behind-told st s.tensors s.letter st.bound key (place_at s.tensors st.bound key))) (good-next s st key (place_at s.tensors st.bound key) refl e g),
+  subst (IsGood s) (sym (behind-told st s.tensors s.letter st.bound key (place_at s.tensors st.bound key))) (good-told s st key (place_at s.tensors st.bound key) refl e g),
 )
   where
     both : s.crew ≡ 0 → is_unsettled s st key ≡ true → (nat_eq s.crew 0 && is_unsettled s st key) ≡ true
-    both none u = rw (none, u) refl
+    both none u = ap (λ n. nat_eq n 0 && is_unsettled s st key) none ∙ u
+
+pub good-finish : (s : Session) (st : Stage) → IsGood s st → IsGood s (finish st)
+unfolding finish is_open
+good-finish s st g = record {
+  low = g.low;
+  finished = λ X e. let same : st.bound ≡ X = cc in omega arith;
+  quiet = λ none other i. le-ltb st.bound (euler_of other) (g.low other i);
+}
+
+pub good-grown : (s : Session) (st : Stage) (Y : ℕ) → st.bound ≤ Y → IsGood s st → IsGood s (grown s.tensors Y st)
+unfolding grown
+good-grown s st Y h g =
+    let up = (grows-up (limit s.tensors Y) st.bound Y h).0 in record {
+      low = λ other i. let l = g.low other i in omega arith;
+      finished = λ X e. let l = g.finished X e in omega arith;
+      quiet = g.quiet;
+    }
 
 -- admitted replies to any lines there are
-pub complete : (s : Session) (st : Stage) (lines : List Line) → IsGood s st → (replies : List Reply) × Replied (IsAdmitted s) st lines replies
-unfolding Replied finish IsGood
-complete s st [] g = ([], tt)
-complete s st (Finish ∷ lines) g = let rest = complete s (finish st) lines (finished s st) in (rest.0, rest.1)
-  where
-    finished : (s : Session) (st : Stage) → IsGood s (record st { finished = Some st.bound })
-    finished s st = λ none. inr refl
-complete s st (Ask key ∷ lines) g =
+pub complete : (s : Session) (st : Stage) (lines : List Line) → IsGood s st → Rises st.bound lines → (replies : List Reply) × Replied s.tensors (IsAdmitted s) st lines replies
+unfolding Replied Rises finish grown
+complete s st [] g up = ([], tt)
+complete s st (Finish ∷ lines) g up = let rest = complete s (finish st) lines (good-finish s st g) up in (rest.0, rest.1)
+complete s st (Ask key ∷ lines) g up =
     let b = nat_eq s.crew 0 && is_unsettled s st key in
     let reply = chosen b (told s.tensors s.letter st.bound key) in
     let step = good-step s st key b refl g in
-    let rest = complete s (behind st key reply) lines step.1 in
+    let rest = complete s (behind st key reply) lines step.1 (subst (λ X. Rises X lines) (sym (behind-bound st key reply)) up) in
     (reply ∷ rest.0, (step.0, rest.1))
+complete s st (Grow Y ∷ lines) g up =
+    let low : st.bound ≤ Y = omega (arith, up.0) in
+    let rest = complete s (grown s.tensors Y st) lines (good-grown s st Y low g) (rises-lower (bound_after (limit s.tensors Y) st.bound Y) Y lines (grows-up (limit s.tensors Y) st.bound Y low).1 up.2) in
+    (growth (limit s.tensors Y) Y ∷ rest.0, (refl, rest.1))
 
-pub stands-good : (p : Planning) (crew : ℕ) (alone : Bool) (Knows : ℕ → Type 0) (st : Stage) → Stands p crew alone Knows st → IsGood (session_of p crew) st
-unfolding IsGood
-stands-good p crew alone Knows st h = by alone refl
+-- ---- along admitted replies
+
+good-admitted : (s : Session) (st : Stage) (key : Key) (reply : Reply) (b : Bool) → (nat_eq s.crew 0 && is_unsettled s st key) ≡ b → IsGood s st → IsAdmitted s st key reply → IsGood s (behind st key reply)
+unfolding behind told
+good-admitted s st key reply true e g a =
+    let parts = and_parts (nat_eq s.crew 0) (is_unsettled s st key) e in
+    let none : s.crew ≡ 0 = grind (arith, parts) in
+    subst (λ r. IsGood s (behind st key r)) (sym (a.alone none parts.1)) g
+good-admitted s st key reply false e g a = by a.said
   where
-    by : (b : Bool) → alone ≡ b → crew ≡ 0 → ((st.finished ≡ None) × (st.given ≡ [])) ⊎ (st.finished ≡ Some st.bound)
-    by true a none = let n = h.none a in inl (n.1, n.0)
-    by false a none = inr (h.busy a none ∙ ap Some (sym h.bound))
+    by : {B : Type 0} → (reply ≡ told s.tensors s.letter st.bound key) ⊎ ((reply ≡ NotYet) × B) → IsGood s (behind st key reply)
+    by (inl said) = subst (λ r. IsGood s (behind st key r)) (sym said)
+        (subst (IsGood s) (sym (behind-told st s.tensors s.letter st.bound key (place_at s.tensors st.bound key))) (good-told s st key (place_at s.tensors st.bound key) refl e g))
+    by (inr silent) = subst (λ r. IsGood s (behind st key r)) (sym silent.0) g
+
+-- a stage stays good, and the bounds of the lines behind it rise
+pub good-along : (s : Session) (st : Stage) (lines rest : List Line) (replies : List Reply) → IsGood s st → Rises st.bound (lines ++ rest) → Replied s.tensors (IsAdmitted s) st lines replies
+    → IsGood s (stage_after s.tensors st lines replies) × Rises (stage_after s.tensors st lines replies).bound rest
+unfolding Replied Rises stage_after finish grown
+good-along s st [] rest [] g up r = (g, up)
+good-along s st [] rest (reply ∷ replies) g up r = absurd r
+good-along s st (Finish ∷ lines) rest replies g up r = good-along s (finish st) lines rest replies (good-finish s st g) up r
+good-along s st (Ask key ∷ lines) rest [] g up r = absurd r
+good-along s st (Ask key ∷ lines) rest (reply ∷ replies) g up r =
+    good-along s (behind st key reply) lines rest replies (good-admitted s st key reply (nat_eq s.crew 0 && is_unsettled s st key) refl g r.0)
+    (subst (λ X. Rises X (lines ++ rest)) (sym (behind-bound st key reply)) up) r.1
+good-along s st (Grow Y ∷ lines) rest [] g up r = absurd r
+good-along s st (Grow Y ∷ lines) rest (reply ∷ replies) g up r =
+    let low : st.bound ≤ Y = omega (arith, up.0) in
+    good-along s (grown s.tensors Y st) lines rest replies (good-grown s st Y low g)
+    (rises-lower (bound_after (limit s.tensors Y) st.bound Y) Y (lines ++ rest) (grows-up (limit s.tensors Y) st.bound Y low).1 up.2) r.1
+
+pub good-start : (s : Session) (X : ℕ) → IsGood s (start X)
+unfolding StandsIn
+good-start s X = record { low = λ other i. absurd i; finished = λ Y e. absurd (none_some Y e); quiet = λ none other i. absurd i }
+  where
+    none_some : (Y : ℕ) → None ≡ Some Y → ⊥
+    none_some Y e = cc

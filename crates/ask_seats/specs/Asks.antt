@@ -1,5 +1,5 @@
 -- What an ask answers, and what a session writes.
-use Rattle.std.specs.Prelude.{◌≡◌, ℕ, ◌+◌, ◌≤◌, List, Option}
+use Rattle.std.specs.Prelude.{◌≡◌, ◌⊎◌, ℕ, ◌+◌, ◌≤◌, List, ◌∷◌, ◌++◌, length, Option}
 use Rattle.std.specs.Io.KnownBytes.{Appends}
 use Rattle.airy_io.specs.Causes.{AppendsPrefix, Rose, Taking}
 use Rattle.airy_math.specs.Keys.{Key}
@@ -16,7 +16,8 @@ use Rattle.ask_seats.specs.declared.answer.Answer.TheVariants as answer
 use Rattle.ask_seats.specs.declared.session_err.SessionErr.{SessionErr}
 use Rattle.ask_seats.specs.declared.session_err.SessionErr.TheVariants as err
 use Rattle.command_words.specs.declared.line.Line.{Line}
-unfoldable pub use Rattle.ask_seats.specs.Lines.{AreAsks, HasOneFinish, has_finish}
+use Rattle.command_words.specs.declared.line.Line.TheVariants.{Grow}
+unfoldable pub use Rattle.ask_seats.specs.Lines.{AreAsks, FinishesOnce, Rises, ends_finished}
 
 -- ---- an ask
 
@@ -68,8 +69,20 @@ pub record CutShort (s : Session) (X : ℕ) (lines : List Line) (old new : Optio
   pub admitted : Admitted s X lines replies
   pub cut : AppendsPrefix old new (lines_text replies)
 
+-- Memory was wanting at a `grow`: the lines of admitted replies to the lines before it were written, n of them, and nothing else.
+pub record StopsAtGrow (s : Session) (X : ℕ) (lines : List Line) (old new : Taking) (n : ℕ) : Type 0 where
+  pub before : List Line
+  pub bound : ℕ
+  pub rest : List Line
+  pub there : lines ≡ before ++ (Grow bound ∷ rest)
+  pub replies : List Reply
+  pub admitted : Admitted s X before replies
+  pub written : Appends old.taken new.taken (lines_text replies)
+  pub steady : new.faults ≡ old.faults
+  pub many : n ≡ length replies
+
 -- What a session that ends with an error did: it wrote a prefix of its lines, and the sink's count of faults rose; or memory was wanting,
--- and it wrote nothing.
+-- before its first line, when it wrote nothing, or at a `grow`.
 abbrev pub Fails : Session → ℕ → List Line → Taking → Taking → SessionErr → Type 0
 Fails s X lines old new err.WriteFault = CutShort s X lines old.taken new.taken × Rose old.faults new.faults × (old.faults ≤ new.faults)
-Fails s X lines old new err.NoMemory = new ≡ old
+Fails s X lines old new (err.NoMemory n) = ((new ≡ old) × (n ≡ 0)) ⊎ StopsAtGrow s X lines old new n

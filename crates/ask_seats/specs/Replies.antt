@@ -1,5 +1,5 @@
--- What a session replies to an ask, and the lines of its replies.
-use Rattle.std.specs.Prelude.{ℕ, List, [], ◌∷◌, ◌++◌, codes}
+-- What a session replies to an ask or a `grow`, and the lines of its replies.
+use Rattle.std.specs.Prelude.{ℕ, List, [], ◌∷◌, ◌++◌, codes, decimal}
 use Rattle.airy_math.specs.Rational.{ℚ}
 use Rattle.airy_math.specs.Keys.{Key}
 use Rattle.airy_index.specs.Text.{key_text}
@@ -7,7 +7,7 @@ use Rattle.amp_terms.specs.Text.{value_text}
 use Rattle.ask_seats.specs.declared.answer.Answer.{Answer}
 use Rattle.ask_seats.specs.declared.answer.Answer.TheVariants as answer
 
--- A reply to an ask for a key.
+-- A reply to an ask for a key, or to a `grow`.
 pub data Reply : Type 0 where
   -- the Value of a planned key, with the power of the letter
   Value : ℚ → ℕ → Reply
@@ -23,6 +23,12 @@ pub data Reply : Type 0 where
   Beyond : Reply
   -- an index is not below dim
   BadIndex : Reply
+  -- the bound was raised to this one
+  GrownTo : ℕ → Reply
+  -- it was not: there are too many planned keys, the first of these too many with this Euler number
+  ManyCells : ℕ → Reply
+  -- it was not: the planned keys have too many needs, from this key on
+  ManyNeeds : Key → Reply
 
 unfoldable pub reply_text : Reply → List ℕ
 reply_text (Value v e) = value_text v e
@@ -32,6 +38,9 @@ reply_text NotYet = codes "not yet"
 reply_text Zero = codes "zero"
 reply_text Beyond = codes "beyond"
 reply_text BadIndex = codes "no such index"
+reply_text (GrownTo X) = codes "grown to " ++ decimal X
+reply_text (ManyCells e) = codes "not grown: cells at level " ++ decimal e
+reply_text (ManyNeeds key) = codes "not grown: needs at " ++ key_text key
 
 unfoldable pub line_text : Reply → List ℕ
 line_text reply = reply_text reply ++ codes "\n"

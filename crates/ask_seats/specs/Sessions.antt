@@ -15,15 +15,16 @@ use Rattle.airy_math.specs.Tensors.{Tensors}
 use Rattle.airy_math.specs.Planned.{planned, IsPlanned}
 use Rattle.airy_math.specs.Ranks.{place_of, key_at}
 use Rattle.airy_math.specs.Terms.{StandsIn, RestsOn}
+use Rattle.amp_plan.specs.Limits.{Limit, Within, PassesBound, PassesCells, PassesNeeds, limit}
 use Rattle.amp_plan.specs.Places.{are_below}
 use Rattle.amp_plan.specs.declared.Place.{Place}
 use Rattle.amp_plan.specs.declared.Place.TheVariants as place
 use Rattle.amp_terms.specs.declared.Outcome.{Outcome}
 use Rattle.amp_terms.specs.declared.Outcome.TheVariants as outcome
 use Rattle.amp_terms.specs.Outcomes.{outcomes}
-use Rattle.ask_seats.specs.Replies.{Reply, Value, Over, Blocked, NotYet, Zero, Beyond, BadIndex}
+use Rattle.ask_seats.specs.Replies.{Reply, Value, Over, Blocked, NotYet, Zero, Beyond, BadIndex, GrownTo, ManyCells, ManyNeeds}
 use Rattle.command_words.specs.declared.line.Line.{Line}
-use Rattle.command_words.specs.declared.line.Line.TheVariants.{Ask, Finish}
+use Rattle.command_words.specs.declared.line.Line.TheVariants.{Ask, Finish, Grow}
 
 -- What a session is about: tensors, whether they carry the letter, and how many workers fill their table.
 pub record Session : Type 0 where
@@ -82,6 +83,35 @@ is_open (Some X) e = ltb X e
 unfoldable pub is_unsettled : Session → Stage → Key → Bool
 is_unsettled s stage key = is_rank (place_at s.tensors stage.bound key) && is_open stage.finished (euler_of key)
 
+-- ---- a `grow`
+
+-- its reply, by the limit that the plan up to the new bound X passes; no line has a bound that is none
+unfoldable pub growth : Limit → ℕ → Reply
+growth Within X = GrownTo X
+growth PassesBound X = Beyond
+growth (PassesCells e) X = ManyCells e
+growth (PassesNeeds key) X = ManyNeeds key
+
+-- the bound behind it: the new one, or, where its plan passes a limit, the old one
+unfoldable pub bound_after : Limit → ℕ → ℕ → ℕ
+bound_after Within X Y = Y
+bound_after PassesBound X Y = X
+bound_after (PassesCells e) X Y = X
+bound_after (PassesNeeds key) X Y = X
+
+-- behind a `grow` to Y
+unfoldable pub grown : Tensors → ℕ → Stage → Stage
+grown T Y stage = record stage { bound = bound_after (limit T Y) stage.bound Y }
+
+-- the bound behind some lines
+unfoldable pub bound_behind : Tensors → ℕ → List Line → ℕ
+bound_behind T X [] = X
+bound_behind T X (Ask key ∷ lines) = bound_behind T X lines
+bound_behind T X (Finish ∷ lines) = bound_behind T X lines
+bound_behind T X (Grow Y ∷ lines) = bound_behind T (bound_after (limit T Y) X Y) lines
+
+-- ---- an ask
+
 -- the one key is the other, or rests on it
 abbrev pub IsOrRestsOn : Tensors → Key → Key → Type 0
 IsOrRestsOn T one other = (one ≡ other) ⊎ RestsOn T one other
@@ -93,7 +123,7 @@ pub record IsAdmitted (s : Session) (stage : Stage) (key : Key) (reply : Reply) 
   -- no answer is taken back: `not yet` is not said of a key of which an earlier reply gave the outcome, nor of what that key rests on
   pub kept : reply ≡ NotYet
       → (other : Key) → IsPlanned s.tensors stage.bound other → StandsIn other stage.given → IsOrRestsOn s.tensors other key → ⊥
-  -- without workers nothing is filled before `finish`
+  -- without workers nothing is filled but by a `finish`
   pub alone : s.crew ≡ 0 → IsTrue (is_unsettled s stage key) → reply ≡ NotYet
 
 -- behind a reply: the key is given where the reply gave its outcome
@@ -105,15 +135,23 @@ behind stage key NotYet = stage
 behind stage key Zero = stage
 behind stage key Beyond = stage
 behind stage key BadIndex = stage
+behind stage key (GrownTo X) = stage
+behind stage key (ManyCells e) = stage
+behind stage key (ManyNeeds other) = stage
 
--- Replies to the lines from a stage on, one to each ask in order, of which each has P at its stage.
-unfoldable pub Replied : (Stage → Key → Reply → Type 0) → Stage → List Line → List Reply → Type 0
-Replied P stage [] [] = Unit
-Replied P stage [] (reply ∷ replies) = ⊥
-Replied P stage (Finish ∷ lines) replies = Replied P (finish stage) lines replies
-Replied P stage (Ask key ∷ lines) [] = ⊥
-Replied P stage (Ask key ∷ lines) (reply ∷ replies) = P stage key reply × Replied P (behind stage key reply) lines replies
+-- ---- a session
+
+-- Replies to the lines from a stage on, one to each ask and each `grow` in order: of each ask's reply P holds at its stage, and a
+-- `grow` has its own.
+unfoldable pub Replied : Tensors → (Stage → Key → Reply → Type 0) → Stage → List Line → List Reply → Type 0
+Replied T P stage [] [] = Unit
+Replied T P stage [] (reply ∷ replies) = ⊥
+Replied T P stage (Finish ∷ lines) replies = Replied T P (finish stage) lines replies
+Replied T P stage (Ask key ∷ lines) [] = ⊥
+Replied T P stage (Ask key ∷ lines) (reply ∷ replies) = P stage key reply × Replied T P (behind stage key reply) lines replies
+Replied T P stage (Grow X ∷ lines) [] = ⊥
+Replied T P stage (Grow X ∷ lines) (reply ∷ replies) = (reply ≡ growth (limit T X) X) × Replied T P (grown T X stage) lines replies
 
 -- The replies to the lines of a session with the bound X are admitted.
 abbrev pub Admitted : Session → ℕ → List Line → List Reply → Type 0
-Admitted s X lines replies = Replied (IsAdmitted s) (start X) lines replies
+Admitted s X lines replies = Replied s.tensors (IsAdmitted s) (start X) lines replies

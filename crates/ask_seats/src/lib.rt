@@ -3,7 +3,10 @@
 
 mod answer;
 mod asker;
+mod growth;
 mod laws;
+mod lines;
+mod parts;
 mod replies;
 mod session_err;
 mod sessions;

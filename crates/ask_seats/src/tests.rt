@@ -1,12 +1,13 @@
-ghost use Rattle.std.specs.Prelude.{◌≤◌, ◌<◌, length};
+ghost use Rattle.std.specs.Prelude.{ℕ, ◌≤◌, ◌<◌, false, length};
 ghost use Rattle.airy_math.specs.Keys.{euler};
 ghost use Rattle.cell_words.specs.LevelSeats.{IsAsker, IsFiller};
-ghost use Rattle.ask_seats.specs.Asks.{HasOneFinish};
+ghost use Rattle.ask_seats.specs.Asks.{FinishesOnce, Rises};
 
 use crate::{Answer, Asker, Line, session};
 use airy_index::{Key, Law, Shape};
 use airy_io::{Failed, MemSink, Sink};
 use amp_plan::Plan;
+use amp_terms::{Table, one_thread};
 use cell_words::{Cells, FillSeat, Frontier, LevelSeat, level_alone};
 use fill_crew::{Gate, OpenGate, StopAfter};
 use frac128::Frac;
@@ -102,7 +103,8 @@ fn writes_into<R: Threads + Sync, G: Gate + Sync>(
     text: &[u8],
 ) -> bool
     requires crew { crew ≤ 16 }
-    requires finish { HasOneFinish lines.now }
+    requires finish { FinishesOnce false lines.now }
+    requires rises { Rises plan.bound lines.now }
 {
     let ok = session(rt, alloc, plan, crew, lines, gate, out).is_ok();
     ok == (out.faults == 0) && &out.space[..out.taken] == text
@@ -119,7 +121,8 @@ fn writes<R: Threads + Sync, G: Gate + Sync>(
     text: &[u8],
 ) -> bool
     requires crew { crew ≤ 16 }
-    requires finish { HasOneFinish lines.now }
+    requires finish { FinishesOnce false lines.now }
+    requires rises { (X : ℕ) → Rises X lines.now }
 {
     let Some(plan) = plan else {
         return false;
@@ -131,10 +134,11 @@ fn writes<R: Threads + Sync, G: Gate + Sync>(
 }
 
 /// An ask for the key 0,3 [0 0 0], `finish`, and another ask.
-#[tactic(auto, unfolding(crate::specs::Asks::HasOneFinish, crate::specs::Asks::AreAsks, airy_math::specs::Keys::euler))]
+#[tactic(auto, unfolding(crate::specs::Asks::FinishesOnce, crate::specs::Asks::Rises, airy_math::specs::Keys::euler))]
 fn around_finish(g: u8, idx: &[u8]) -> [Line; 3]
     requires { (0 < length idx.now) × (length idx.now ≤ 26) × (0 < euler g (length idx.now)) }
-    ensures { HasOneFinish result }
+    ensures finish { FinishesOnce false result }
+    ensures rises { (X : ℕ) → Rises X result }
 {
     [
         Line::Ask(key(0, &[0, 0, 0])),
@@ -167,9 +171,10 @@ fn alone_nothing_is_filled_before_finish(rt: HostRuntime) {
 }
 
 /// `finish`, and then keys of the plan up to 3, of which only the first is planned.
-#[tactic(auto, unfolding(crate::specs::Asks::HasOneFinish, crate::specs::Asks::AreAsks, airy_math::specs::Keys::euler))]
+#[tactic(auto, unfolding(crate::specs::Asks::FinishesOnce, crate::specs::Asks::Rises, airy_math::specs::Keys::euler))]
 fn behind_finish() -> [Line; 5]
-    ensures { HasOneFinish result }
+    ensures finish { FinishesOnce false result }
+    ensures rises { (X : ℕ) → Rises X result }
 {
     [
         Line::Finish,
@@ -257,9 +262,10 @@ fn large_plan(alloc: Global) -> Option<Plan> {
 }
 
 /// `finish`, and then keys of one index.
-#[tactic(auto, unfolding(crate::specs::Asks::HasOneFinish, crate::specs::Asks::AreAsks, airy_math::specs::Keys::euler))]
+#[tactic(auto, unfolding(crate::specs::Asks::FinishesOnce, crate::specs::Asks::Rises, airy_math::specs::Keys::euler))]
 fn behind_large_sums() -> [Line; 6]
-    ensures { HasOneFinish result }
+    ensures finish { FinishesOnce false result }
+    ensures rises { (X : ℕ) → Rises X result }
 {
     [
         Line::Finish,
@@ -291,6 +297,225 @@ fn writes_large_sums<R: Threads + Sync>(rt: &R, alloc: Global) -> bool {
 #[test]
 fn a_sum_that_leaves_the_range(rt: HostRuntime) {
     assert!(rt; writes_large_sums(&rt, rt.alloc()));
+}
+
+/// Whether a session that begins at this bound writes this text.
+fn grows<R: Threads + Sync>(
+    rt: &R,
+    alloc: Global,
+    plan: Option<Plan>,
+    bound: u8,
+    crew: u8,
+    lines: &[Line],
+    text: &[u8],
+) -> bool
+    requires crew { crew ≤ 16 }
+    requires finish { FinishesOnce false lines.now }
+    requires rises { Rises bound lines.now }
+{
+    let Some(plan) = plan else {
+        return false;
+    };
+    let Some(mut out) = sink_of(alloc, NEVER) else {
+        return false;
+    };
+    plan.bound() == bound && writes_into(rt, alloc, plan, crew, lines, &OpenGate, &mut out, text)
+}
+
+/// The plan of Witten and Kontsevich up to 1, over the indices that one up to 6 wants.
+fn first_plan(alloc: Global) -> Option<Plan> {
+    Plan::make(alloc, wk(alloc, 9)?, 1).ok()
+}
+
+/// A key of the second level is beyond the first, then not filled, then filled; a settled key stays so.
+#[tactic(auto, unfolding(crate::specs::Asks::FinishesOnce, crate::specs::Asks::Rises, airy_math::specs::Keys::euler))]
+fn around_growth() -> [Line; 7]
+    ensures finish { FinishesOnce false result }
+    ensures rises { Rises 1 result }
+{
+    [
+        Line::Finish,
+        Line::Ask(key(0, &[0, 0, 0, 1])),
+        Line::Grow(2),
+        Line::Ask(key(0, &[0, 0, 0])),
+        Line::Ask(key(0, &[0, 0, 0, 1])),
+        Line::Finish,
+        Line::Ask(key(0, &[0, 0, 0, 1])),
+    ]
+}
+
+#[test]
+fn settled_keys_stay_so(rt: HostRuntime) {
+    let text = b"beyond\ngrown to 2\n1\nnot yet\n3\n";
+    assert!(rt;
+        grows(
+            &rt,
+            rt.alloc(),
+            first_plan(rt.alloc()),
+            1,
+            0,
+            &around_growth(),
+            text
+        )
+    );
+}
+
+/// Five growths, with a `finish` in each part, and the last key with one or two indices of each level.
+#[tactic(auto, unfolding(crate::specs::Asks::FinishesOnce, crate::specs::Asks::Rises, airy_math::specs::Keys::euler))]
+fn five_growths() -> [Line; 17]
+    ensures finish { FinishesOnce false result }
+    ensures rises { Rises 1 result }
+{
+    [
+        Line::Finish,
+        Line::Ask(key(1, &[1])),
+        Line::Grow(2),
+        Line::Finish,
+        Line::Ask(key(1, &[1, 1])),
+        Line::Grow(3),
+        Line::Finish,
+        Line::Ask(key(2, &[4])),
+        Line::Grow(4),
+        Line::Finish,
+        Line::Ask(key(2, &[0, 5])),
+        Line::Grow(5),
+        Line::Finish,
+        Line::Ask(key(3, &[7])),
+        Line::Grow(6),
+        Line::Finish,
+        Line::Ask(key(3, &[0, 8])),
+    ]
+}
+
+const FIVE_GROWTHS: &[u8] =
+    b"1/8\ngrown to 2\n3/8\ngrown to 3\n105/128\ngrown to 4\n1155/128\ngrown to 5\n25025/1024\ngrown to 6\n425425/1024\n";
+
+#[test]
+fn growths_beside_every_crew(rt: HostRuntime) {
+    for crew in [0u8, 1, 8] {
+        assert!(rt;
+            grows(
+                &rt,
+                rt.alloc(),
+                first_plan(rt.alloc()),
+                1,
+                crew,
+                &five_growths(),
+                FIVE_GROWTHS
+            )
+        );
+    }
+}
+
+/// Whether two tables have the same outcomes.
+fn is_same_table(one: &Table, other: &Table) -> bool {
+    if one.len() != other.len() {
+        return false;
+    }
+    for rank in 0..one.len() {
+        if one.outcome(rank) != other.outcome(rank) {
+            return false;
+        }
+    }
+    true
+}
+
+/// Whether the last board of the five growths has the table of one thread up to 6.
+fn ends_as_one_thread<R: Threads + Sync>(rt: &R, alloc: Global) -> Option<bool> {
+    let plan = first_plan(alloc)?;
+    if plan.bound() != 1 {
+        return None;
+    }
+    let mut out = sink_of(alloc, NEVER)?;
+    let lines = five_growths();
+    let closed = session(rt, alloc, plan, 2, &lines, &OpenGate, &mut out).ok()?;
+    let one = one_thread(alloc, &closed.plan).ok()?;
+    Some(closed.plan.bound() == 6 && is_same_table(&closed.table, &one))
+}
+
+#[test]
+fn a_grown_table_is_that_of_one_thread(rt: HostRuntime) {
+    assert!(rt; ends_as_one_thread(&rt, rt.alloc()) == Some(true));
+}
+
+/// A growth that is refused, and asks at the old bound.
+#[tactic(auto, unfolding(crate::specs::Asks::FinishesOnce, crate::specs::Asks::Rises, airy_math::specs::Keys::euler))]
+fn refused_growth(bound: u8) -> [Line; 5]
+    requires { (2 < bound) × (bound ≤ 24) }
+    ensures finish { FinishesOnce false result }
+    ensures low { Rises 1 result }
+    ensures rises { Rises 2 result }
+{
+    [
+        Line::Grow(bound),
+        Line::Ask(key(1, &[0])),
+        Line::Finish,
+        Line::Ask(key(1, &[0])),
+        Line::Ask(key(0, &[0, 0, 0, 0, 0])),
+    ]
+}
+
+/// Thirty-two indices and no entries, up to 2: up to 3 there are too many keys.
+#[tactic(auto, unfolding(sparse_tensor::specs::Grades::IsSmallLaw))]
+fn wide_plan(alloc: Global) -> Option<Plan> {
+    let t = Tensors::empty(alloc, 32, Shape::All, false).ok()?;
+    Plan::make(alloc, t, 2).ok()
+}
+
+#[test]
+fn growth_refused_by_cells(rt: HostRuntime) {
+    let text = b"not grown: cells at level 3\nnot yet\n0\nbeyond\n";
+    assert!(rt;
+        grows(
+            &rt,
+            rt.alloc(),
+            wide_plan(rt.alloc()),
+            2,
+            0,
+            &refused_growth(3),
+            text
+        )
+    );
+}
+
+/// Each entry of B and of C is 1.
+fn put_all(t: &mut Tensors) -> Result<(), PutErr> {
+    for place in 0..1000u32 {
+        let (i, j, k) = (
+            (place / 100) as u8,
+            (place / 10 % 10) as u8,
+            (place % 10) as u8,
+        );
+        t.put_b(i, j, k, Frac::whole(1))?;
+        if j <= k {
+            t.put_c(i, j, k, Frac::whole(1))?;
+        }
+    }
+    Ok(())
+}
+
+/// Ten indices with all entries of B and C, up to 1: up to 6 there are too many needs.
+#[tactic(auto, unfolding(sparse_tensor::specs::Grades::IsSmallLaw))]
+fn dense_plan(alloc: Global) -> Option<Plan> {
+    let mut t = Tensors::empty(alloc, 10, Shape::All, false).ok()?;
+    put_all(&mut t).ok()?;
+    Plan::make(alloc, t, 1).ok()
+}
+
+#[test]
+fn growth_refused_by_needs(rt: HostRuntime) {
+    let text = b"not grown: needs at 1,5 [4 4 4 7 7]\nnot yet\n0\nbeyond\n";
+    assert!(rt;
+        grows(
+            &rt,
+            rt.alloc(),
+            dense_plan(rt.alloc()),
+            1,
+            0,
+            &refused_growth(6),
+            text
+        )
+    );
 }
 
 /// A plan without cells: one index, and a shape that covers no key.
@@ -405,9 +630,10 @@ fn unfilled_in(text: &[u8]) -> u32 {
 }
 
 /// A key, and then all keys of the plan up to 2.
-#[tactic(auto, unfolding(crate::specs::Asks::HasOneFinish, crate::specs::Asks::AreAsks, airy_math::specs::Keys::euler))]
+#[tactic(auto, unfolding(crate::specs::Asks::FinishesOnce, crate::specs::Asks::Rises, airy_math::specs::Keys::euler))]
 fn all_planned() -> [Line; 6]
-    ensures { HasOneFinish result }
+    ensures finish { FinishesOnce false result }
+    ensures rises { (X : ℕ) → Rises X result }
 {
     [
         Line::Ask(key(0, &[0, 0, 0])),

@@ -16,3 +16,4 @@ pub mod ResumeLemmas
 pub mod LevelSteps
 pub mod LevelLemmas
 pub mod FillerLemmas
+pub mod GrowLemmas

@@ -72,7 +72,7 @@ number_there (s ∷ ss) k h =
     ⊎_elim (λ (e : nat_eq k s.number ≡ true). (0, omega arith, λ d. sym (eqb-true k s.number e))) (λ e. let t = number_there ss k e in (suc t.0, let l = t.1 in omega arith, t.2))
     (or_true (nat_eq k s.number) (has k (numbers_in ss)) h)
 
-cell_some : (b : Bool) (o : Outcome) → is_some (cond b (Some o) None) ≡ b
+pub cell_some : (b : Bool) (o : Outcome) → is_some (cond b (Some o) None) ≡ b
 cell_some true o = refl
 cell_some false o = refl
 

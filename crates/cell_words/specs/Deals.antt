@@ -55,6 +55,10 @@ pub record AreAll (b : Countdown) (ss : List CountSeat) : Type 0 where
   pub seats : AreSeats b ss
   pub all : (k : ℕ) → k < seats_of b → has k (numbers_in ss) ≡ true
 
+-- one of the seats knows the rank
+abbrev pub SomeKnows : List CountSeat → ℕ → Type 0
+SomeKnows ss r = (j : ℕ) × (j < length ss) × ((d : CountSeat) → Known (view_of (slice_index_or ss j d)) r)
+
 -- The seats without their tokens.
 pub record AreTaken (old new : List CountSeat) : Type 0 where
   pub len : length new ≡ length old

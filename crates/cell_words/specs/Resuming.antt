@@ -27,6 +27,11 @@ pub record CanResume (p : Planning) (t : List (Option Outcome)) : Type 0 where
   pub right : (r : ℕ) (o : Outcome) → get_or t r None ≡ Some o → o ≡ outcome_at p r
   pub needs : (r q : ℕ) → carries t r ≡ true → has q (needs_at p r) ≡ true → carries t q ≡ true
 
+-- What can be resumed over a plan can be resumed over the plan up to a greater bound.
+abbrev pub GrownTablesLaw : Type 0
+GrownTablesLaw = (p : Planning) (Y : ℕ) (t : List (Option Outcome)) → p.bound ≤ Y → CanResume p t
+    → CanResume (record { tensors = p.tensors; bound = Y }) t
+
 -- The words of the first cells: those of a carried rank are filled, the state of any other counts its needs that aren't carried.
 pub record AreResumed (p : Planning) (t : List (Option Outcome)) (n : ℕ) (words : List ℕ) : Type 0 where
   pub filled : (r : ℕ) → r < n → carries t r ≡ true → slice_index words (5 * r) ≡ FILLED

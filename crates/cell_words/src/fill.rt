@@ -1,6 +1,7 @@
 // Filling a cell that the seat has claimed.
-ghost use Rattle.std.specs.Prelude.{◌≡◌, ℕ, ◌+◌, ◌*◌, ◌<◌, ◌≤◌, ◌++◌, List, [], ◌∷◌, length, false, true, slice_index, Some, None};
+ghost use Rattle.std.specs.Prelude.{◌≡◌, ℕ, ◌+◌, ◌*◌, ◌<◌, ◌≤◌, ◌++◌, List, [], ◌∷◌, length, false, true, slice_index, Some, None, All};
 ghost use Rattle.std.specs.List.{FoldsTo};
+ghost use Rattle.amp_plan.specs.Needs.{has, dependents_at};
 ghost use Rattle.cell_words.specs.Layout.{cells, outcome_at};
 ghost use Rattle.cell_words.specs.Acts.{act_of, done_act, freed_by};
 ghost use Rattle.cell_words.specs.Countdown.{tail_of};
@@ -47,6 +48,7 @@ impl Countdown {
         ensures seen { (view_of seat.new).seen ≡ (view_of seat.old).seen ++ rank ∷ [] }
         ensures others { tail_of (view_of seat.new).portions ≡ tail_of (view_of seat.old).portions }
         ensures kept { (seat.new.number ≡ seat.old.number) × (seat.new.held ≡ seat.old.held) × (seat.new.done ≡ seat.old.done) }
+        ensures freed { All (λ t. has t (dependents_at (plan_of self.now) rank) ≡ true) (freed_by (view_of seat.new) rank) }
         ensures told { (last : R) × FoldsTo (λ p x q. R.step p x tt q) ready (freed_by (view_of seat.new) rank) last }
     {
         let outcome = self.computed(seat, rank);
@@ -77,6 +79,7 @@ impl Countdown {
         ensures filled { act_in (view_of seat.new) rank ≡ Some (done_act (plan_of self.now) rank (freed_by (view_of seat.new) rank)) }
         ensures knows { Known (view_of seat.new) rank }
         ensures keeps { (r : ℕ) → Known (view_of seat.old) r → Known (view_of seat.new) r }
+        ensures freed { All (λ t. has t (dependents_at (plan_of self.now) rank) ≡ true) (freed_by (view_of seat.new) rank) }
         ensures told { (last : R) × FoldsTo (λ p x q. R.step p x tt q) ready (freed_by (view_of seat.new) rank) last }
     {
         self.fill_at(seat, rank, ready);

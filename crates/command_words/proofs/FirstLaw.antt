@@ -20,7 +20,7 @@ probe_good : Good read_probe
 probe_good = number_good long_number refl _ λ X. ends_good (λ n. Probe X n) (λ n k e. cc)
 
 session_good : Good read_session
-session_good = kind_good _ λ kind. number_good long_number refl _ λ X. script_good (Session kind X) (λ n lines k e. cc)
+session_good = kind_good _ λ kind. number_good long_number refl _ λ X. script_good X (Session kind X) (λ n lines k e. cc)
 
 relations_good : Good read_relations
 relations_good = number_good (short_number 1 32) refl _ λ N. kind_good _ λ kind. ends_good (λ n. Relations N kind) (λ n k e. cc)

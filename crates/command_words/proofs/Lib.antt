@@ -1,4 +1,4 @@
-mod ScriptLemmas
+pub mod ScriptLemmas
 mod StopLemmas
 mod FirstLaw
 mod StableLemmas

@@ -1,10 +1,10 @@
 -- Where a reader of the words stops.
 use Rattle.std.proofs.Common.{◌≡◌, ◌≢◌, ◌⊎◌, inl, inr, ℕ, zero, suc, ◌+◌, Bool, true, false, List, [], ◌∷◌, ◌++◌, length, refl, sym, ap, ◌∙◌, arith, Option, Some, None}
-use Rattle.std.specs.Prelude.{codes, Result, Ok, Err}
+use Rattle.std.specs.Prelude.{codes, cond, nat_lt, Result, Ok, Err}
 use Rattle.airy_math.specs.Keys.{key_of}
 use Rattle.airy_math.specs.declared.Family.TheVariants.{Wk}
 use Rattle.command_words.specs.declared.line.Line.{Line}
-use Rattle.command_words.specs.declared.line.Line.TheVariants.{Ask, Finish}
+use Rattle.command_words.specs.declared.line.Line.TheVariants.{Ask, Finish, Grow}
 use Rattle.airy_math.specs.declared.Family.{Family}
 use Rattle.command_words.specs.Words.{Kind, Named, Reading, Refused, kind_of_word, family_of_word}
 use Rattle.command_words.specs.Scripts.{byte_of_word, line_of_word}
@@ -182,9 +182,9 @@ indices_good d room f fine = (indices_stopped d room f fine, (indices_read d roo
 
 -- ---- scripts
 
--- a script behind so much: whether a word stands before it, and whether `finish` does
-abbrev pub script_from : Bool → Bool → (ℕ → List Line → Reading) → Parted → Reading
-script_from some finished f s = script_by (fault_of some finished s) (f (workers_of s) (lines_of s))
+-- a script behind so much: whether a word stands before it, whether `finish` does in this part, and the last bound
+abbrev pub script_from : Bool → Bool → ℕ → (ℕ → List Line → Reading) → Parted → Reading
+script_from some finished X f s = script_by (fault_of some finished X s) (f (workers_of s) (lines_of s))
 
 abbrev pub NeverRefuses : (ℕ → List Line → Reading) → Type 0
 NeverRefuses f = (n : ℕ) (lines : List Line) → Fine (f n lines)
@@ -193,43 +193,55 @@ NeverRefuses f = (n : ℕ) (lines : List Line) → Fine (f n lines)
 abbrev pub with_line : Line → (ℕ → List Line → Reading) → ℕ → List Line → Reading
 with_line line f n lines = f n (line ∷ lines)
 
-at_word : (some finished : Bool) (f : ℕ → List Line → Reading) (p : ℕ) (w : List ℕ) (o : Option Line) → line_of_word w ≡ o → (s : Parted)
-    → script_from some finished f (Next p w s) ≡ script_by (fault_by o p finished (λ once. fault_of true once s)) (f (workers_of s) (line_then o (lines_of s)))
-at_word some finished f p w o is s = ap (λ x. script_by (fault_by x p finished (λ once. fault_of true once s)) (f (workers_of s) (line_then x (lines_of s)))) is
+at_word : (some finished : Bool) (X : ℕ) (f : ℕ → List Line → Reading) (p : ℕ) (w : List ℕ) (o : Option Line) → line_of_word w ≡ o → (s : Parted)
+    → script_from some finished X f (Next p w s) ≡ script_by (fault_by o p finished X (λ once Y. fault_of true once Y s)) (f (workers_of s) (line_then o (lines_of s)))
+at_word some finished X f p w o is s = ap (λ x. script_by (fault_by x p finished X (λ once Y. fault_of true once Y s)) (f (workers_of s) (line_then x (lines_of s)))) is
 
 an_ask : line_of_word (codes "ask:1:0") ≡ Some (Ask (key_of 1 (0 ∷ [])))
 unfolding words_compute
 an_ask = refl
 
-script_goes_on : (finished : Bool) (f : ℕ → List Line → Reading) → NeverRefuses f → Lives (script_from true finished f)
-script_goes_on finished f fine = ends_live (script_from true finished f) (λ p n. fine n [])
+script_goes_on : (finished : Bool) (X : ℕ) (f : ℕ → List Line → Reading) → NeverRefuses f → Lives (script_from true finished X f)
+script_goes_on finished X f fine = ends_live (script_from true finished X f) (λ p n. fine n [])
 
-script_lives : (some finished : Bool) (f : ℕ → List Line → Reading) → NeverRefuses f → Lives (script_from some finished f)
-script_lives true finished f fine = script_goes_on finished f fine
-script_lives false finished f fine = let line = Ask (key_of 1 (0 ∷ [])) in
-    lives_by (script_from false finished f) (script_from true finished (with_line line f)) (codes "ask:1:0") (λ may n. refl) (λ p s. at_word false finished f p (codes "ask:1:0") (Some line) an_ask s)
-    (script_goes_on finished (with_line line f) (λ n lines. fine n (line ∷ lines)))
+script_lives : (some finished : Bool) (X : ℕ) (f : ℕ → List Line → Reading) → NeverRefuses f → Lives (script_from some finished X f)
+script_lives true finished X f fine = script_goes_on finished X f fine
+script_lives false finished X f fine = let line = Ask (key_of 1 (0 ∷ [])) in
+    lives_by (script_from false finished X f) (script_from true finished X (with_line line f)) (codes "ask:1:0") (λ may n. refl) (λ p s. at_word false finished X f p (codes "ask:1:0") (Some line) an_ask s)
+    (script_goes_on finished X (with_line line f) (λ n lines. fine n (line ∷ lines)))
 
-script_ended : (some finished : Bool) (f : ℕ → List Line → Reading) → NeverRefuses f → (p n : ℕ) → (script_from some finished f (End p n) ≡ Refused p) ⊎ Fine (script_from some finished f (End p n))
-script_ended true finished f fine p n = inr (fine n [])
-script_ended false finished f fine p n = inl refl
+script_ended : (some finished : Bool) (X : ℕ) (f : ℕ → List Line → Reading) → NeverRefuses f → (p n : ℕ)
+    → (script_from some finished X f (End p n) ≡ Refused p) ⊎ Fine (script_from some finished X f (End p n))
+script_ended true finished X f fine p n = inr (fine n [])
+script_ended false finished X f fine p n = inl refl
 
-script_turn : (ws : List (List ℕ)) (some finished : Bool) (f : ℕ → List Line → Reading)
-    → ((once : Bool) (g : ℕ → List Line → Reading) → NeverRefuses g → Stopped ws (script_from true once g)) → NeverRefuses f
-    → (p : ℕ) (w : List ℕ) (o : Option Line) → line_of_word w ≡ o → Turn (script_from some finished f) (Stopped ws) p w
-script_turn ws some finished f next fine p w None is = inl (at_word some finished f p w None is)
-script_turn ws some finished f next fine p w (Some (Ask key)) is = inr (script_from true finished (with_line (Ask key) f), at_word some finished f p w (Some (Ask key)) is, next finished (with_line (Ask key) f) (λ n lines. fine n (Ask key ∷ lines)))
-script_turn ws some false f next fine p w (Some Finish) is = inr (script_from true true (with_line Finish f), at_word some false f p w (Some Finish) is, next true (with_line Finish f) (λ n lines. fine n (Finish ∷ lines)))
-script_turn ws some true f next fine p w (Some Finish) is = inl (at_word some true f p w (Some Finish) is)
+script_turn : (ws : List (List ℕ)) (some finished : Bool) (X : ℕ) (f : ℕ → List Line → Reading)
+    → ((once : Bool) (Y : ℕ) (g : ℕ → List Line → Reading) → NeverRefuses g → Stopped ws (script_from true once Y g)) → NeverRefuses f
+    → (p : ℕ) (w : List ℕ) (o : Option Line) → line_of_word w ≡ o → Turn (script_from some finished X f) (Stopped ws) p w
+script_turn ws some finished X f next fine p w None is = inl (at_word some finished X f p w None is)
+script_turn ws some finished X f next fine p w (Some (Ask key)) is =
+    inr (script_from true finished X (with_line (Ask key) f), at_word some finished X f p w (Some (Ask key)) is, next finished X (with_line (Ask key) f) (λ n lines. fine n (Ask key ∷ lines)))
+script_turn ws some false X f next fine p w (Some Finish) is =
+    inr (script_from true true X (with_line Finish f), at_word some false X f p w (Some Finish) is, next true X (with_line Finish f) (λ n lines. fine n (Finish ∷ lines)))
+script_turn ws some true X f next fine p w (Some Finish) is = inl (at_word some true X f p w (Some Finish) is)
+script_turn ws some finished X f next fine p w (Some (Grow Y)) is = by (nat_lt X Y) refl
+  where
+    at : (b : Bool) → nat_lt X Y ≡ b → (s : Parted)
+        → script_from some finished X f (Next p w s) ≡ script_by (cond b (fault_of true false Y s) (Some p)) (f (workers_of s) (Grow Y ∷ lines_of s))
+    at b e s = at_word some finished X f p w (Some (Grow Y)) is s ∙ ap (λ b. script_by (cond b (fault_of true false Y s) (Some p)) (f (workers_of s) (Grow Y ∷ lines_of s))) e
 
-script_reads : (some finished : Bool) (f : ℕ → List Line → Reading) → NeverRefuses f → Reads (script_from some finished f)
-script_reads some finished f fine = record { broken = λ p. refl; ended = script_ended some finished f fine; live = script_lives some finished f fine }
+    by : (b : Bool) → nat_lt X Y ≡ b → Turn (script_from some finished X f) (Stopped ws) p w
+    by true e = inr (script_from true false Y (with_line (Grow Y) f), at true e, next false Y (with_line (Grow Y) f) (λ n lines. fine n (Grow Y ∷ lines)))
+    by false e = inl (at false e)
 
-script_stopped : (some finished : Bool) (f : ℕ → List Line → Reading) → NeverRefuses f → AlwaysStopped (script_from some finished f)
-script_stopped some finished f fine [] = stopped-nil (script_from some finished f) (script_reads some finished f fine)
-script_stopped some finished f fine (w ∷ ws) =
-    stopped-cons (script_from some finished f) w ws (script_reads some finished f fine) (script_stopped some finished f fine ws)
-    (λ p. script_turn ws some finished f (λ once g h. script_stopped true once g h ws) fine p w (line_of_word w) refl)
+script_reads : (some finished : Bool) (X : ℕ) (f : ℕ → List Line → Reading) → NeverRefuses f → Reads (script_from some finished X f)
+script_reads some finished X f fine = record { broken = λ p. refl; ended = script_ended some finished X f fine; live = script_lives some finished X f fine }
 
-pub script_good : (f : ℕ → List Line → Reading) → NeverRefuses f → Good (script_from false false f)
-script_good f fine = (script_stopped false false f fine, script_lives false false f fine)
+script_stopped : (some finished : Bool) (X : ℕ) (f : ℕ → List Line → Reading) → NeverRefuses f → AlwaysStopped (script_from some finished X f)
+script_stopped some finished X f fine [] = stopped-nil (script_from some finished X f) (script_reads some finished X f fine)
+script_stopped some finished X f fine (w ∷ ws) =
+    stopped-cons (script_from some finished X f) w ws (script_reads some finished X f fine) (script_stopped some finished X f fine ws)
+    (λ p. script_turn ws some finished X f (λ once Y g h. script_stopped true once Y g h ws) fine p w (line_of_word w) refl)
+
+pub script_good : (X : ℕ) (f : ℕ → List Line → Reading) → NeverRefuses f → Good (script_from false false X f)
+script_good X f fine = (script_stopped false false X f fine, script_lives false false X f fine)

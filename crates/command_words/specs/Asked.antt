@@ -14,7 +14,11 @@ use Rattle.command_words.specs.declared.options.Act.TheVariants as act
 use Rattle.command_words.specs.declared.options.Left.{Left}
 use Rattle.command_words.specs.declared.options.Next.{Next}
 use Rattle.command_words.specs.declared.options.Next.TheVariants as next
-use Rattle.command_words.specs.Lines.{HasOneFinish}
+use Rattle.command_words.specs.declared.line.Line.{Line}
+use Rattle.command_words.specs.declared.line.Line.TheVariants as line
+use Rattle.command_words.specs.declared.scripts.ScriptWord.{ScriptWord}
+use Rattle.command_words.specs.declared.scripts.ScriptWord.TheVariants as script
+use Rattle.command_words.specs.Bounds.{IsScript}
 use Rattle.command_words.specs.Words as words
 use Rattle.command_words.specs.Options as options
 
@@ -34,6 +38,11 @@ act_of act.Break = options.Break
 
 abbrev pub parted_of : Left → options.Parted
 parted_of l = options.parted (mode_of l.mode) (l.before + 1) (map string_bytes l.words.now)
+
+abbrev pub line_as : ScriptWord → Line
+line_as (script.Ask key) = line.Ask key
+line_as script.Finish = line.Finish
+line_as (script.Grow X) = line.Grow X
 
 abbrev pub token : Next → options.Parted
 token (next.Word before word left) = options.Next (before + 1) word.now (parted_of left)
@@ -100,16 +109,16 @@ IsShorter n (next.Word before word left) = length left.words.now < n
 IsShorter n (next.End before workers) = Unit {0}
 IsShorter n (next.Broken before) = Unit {0}
 
--- the words are a script's, or this is the first that breaks a rule
-abbrev pub IsChecked : Result ℕ ℕ → options.Parted → Type 0
-IsChecked (Ok n) s = (options.fault_of false false s ≡ None) × (options.workers_of s ≡ n) × IsCrew n
-IsChecked (Err before) s = options.fault_of false false s ≡ Some (before + 1)
+-- the words are those of a script behind the bound X, or this is the first that breaks a rule
+abbrev pub IsChecked : ℕ → Result ℕ ℕ → options.Parted → Type 0
+IsChecked X (Ok n) s = (options.fault_of false false X s ≡ None) × (options.workers_of s ≡ n) × IsCrew n
+IsChecked X (Err before) s = options.fault_of false false X s ≡ Some (before + 1)
 
 -- the numbers of what is asked for are within their limits
 abbrev pub IsFit : Asked → Type 0
 IsFit (asked.Relations places k) = IsPlaces places
 IsFit (asked.Table k bound workers) = IsCrew workers
-IsFit (asked.Session k bound workers script) = IsCrew workers × IsLeft script × HasOneFinish (options.lines_of (parted_of script))
+IsFit (asked.Session k bound workers script) = IsCrew workers × IsLeft script × IsScript bound (options.lines_of (parted_of script))
 IsFit (asked.Probe bound workers) = IsCrew workers
 IsFit (asked.Number family key) = IsKey key.g key.idx × (family ≢ Wp)
 IsFit (asked.Volume genus places) = (0 < euler genus places) × (1 ≤ places) × (places ≤ 26)

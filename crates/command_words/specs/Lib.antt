@@ -1,5 +1,6 @@
 -- What the words of a command line mean.
 pub mod Lines
+pub mod Bounds
 pub mod Words
 pub mod Scripts
 pub mod Options

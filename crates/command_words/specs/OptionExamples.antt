@@ -3,8 +3,9 @@ use mathlib.Core.Path.{◌≡◌, refl}
 use Rattle.std.specs.Prelude.{ℕ, [], ◌∷◌, codes}
 use Rattle.airy_math.specs.declared.Family.TheVariants.{Wk}
 use Rattle.airy_math.specs.Keys.{key_of, euler, ordered, ordered_with, insert}
-use Rattle.command_words.specs.declared.line.Line.TheVariants.{Ask, Finish}
+use Rattle.command_words.specs.declared.line.Line.TheVariants.{Ask, Finish, Grow}
 use Rattle.command_words.specs.Words.{Named, Text, Table, Session, Number, Bulk, Refused}
+use Rattle.command_words.specs.Bounds.{is_bound, reach}
 use Rattle.command_words.specs.Scripts.{line_of_word}
 use Rattle.command_words.specs.Options.{worded_of, reading_of}
 
@@ -45,6 +46,41 @@ a_session : reading_of (codes "session" ∷ codes "wk" ∷ codes "3" ∷ codes "
     ≡ Session (Named Wk) 3 4 (Finish ∷ Ask (key_of 0 (0 ∷ 0 ∷ 0 ∷ 1 ∷ [])) ∷ [])
 unfolding words_compute
 a_session = refl
+
+grows : reading_of (codes "session" ∷ codes "wk" ∷ codes "1" ∷ codes "finish" ∷ codes "grow:02" ∷ codes "finish" ∷ [])
+    ≡ Session (Named Wk) 1 2 (Finish ∷ Grow 2 ∷ Finish ∷ [])
+unfolding words_compute
+grows = refl
+
+-- a word may have a bound that a table hasn't
+grows_far : reading_of (codes "session" ∷ codes "-" ∷ codes "2" ∷ codes "grow:25" ∷ codes "grow:999999999" ∷ [])
+    ≡ Session Text 2 2 (Grow 25 ∷ Grow 999999999 ∷ [])
+unfolding words_compute
+grows_far = refl
+
+no_growth : reading_of (codes "session" ∷ codes "wk" ∷ codes "2" ∷ codes "grow:2" ∷ []) ≡ Refused 4
+unfolding words_compute
+no_growth = refl
+
+same_growth : reading_of (codes "session" ∷ codes "wk" ∷ codes "2" ∷ codes "grow:3" ∷ codes "grow:3" ∷ []) ≡ Refused 5
+unfolding words_compute
+same_growth = refl
+
+long_growth : reading_of (codes "session" ∷ codes "wk" ∷ codes "2" ∷ codes "grow:1000000000" ∷ []) ≡ Refused 4
+unfolding words_compute
+long_growth = refl
+
+finish_twice_behind : reading_of (codes "session" ∷ codes "wk" ∷ codes "1" ∷ codes "grow:2" ∷ codes "finish" ∷ codes "finish" ∷ []) ≡ Refused 6
+unfolding words_compute
+finish_twice_behind = refl
+
+far : reach 2 (Grow 25 ∷ Grow 999999999 ∷ []) ≡ 25
+unfolding reach is_bound
+far = refl
+
+greatest : reach 2 (Finish ∷ Grow 3 ∷ Grow 7 ∷ []) ≡ 7
+unfolding reach is_bound
+greatest = refl
 
 dashes : reading_of (codes "table" ∷ codes "--" ∷ codes "-" ∷ codes "1" ∷ []) ≡ Table Text 1 2
 unfolding words_compute

@@ -1,10 +1,10 @@
 -- The words of a command line with its options: every command's reading, from left to right.
-use Rattle.std.specs.Prelude.{ℕ, zero, suc, ◌+◌, nat_eq, List, [], ◌∷◌, length, take, drop, codes, Bool, true, false, cond}
+use Rattle.std.specs.Prelude.{ℕ, zero, suc, ◌+◌, nat_eq, nat_lt, List, [], ◌∷◌, length, take, drop, codes, Bool, true, false, cond}
 use Rattle.std.specs.Prelude.{Option, Some, None, Result, Ok, Err}
 use Rattle.airy_math.specs.Keys.{key_of, ordered}
 use Rattle.std.specs.Str.{bytes_eq}
 use Rattle.command_words.specs.declared.line.Line.{Line}
-use Rattle.command_words.specs.declared.line.Line.TheVariants.{Ask, Finish}
+use Rattle.command_words.specs.declared.line.Line.TheVariants.{Ask, Finish, Grow}
 use Rattle.command_words.specs.Scripts.{byte_of_word, line_of_word}
 use Rattle.command_words.specs.Words.{Reading, Table, Session, Probe, Relations, Number, Volume, Bulk, Refused, settled, default_workers}
 use Rattle.command_words.specs.Words.{long_number, short_number, kind_of_word, family_of_word}
@@ -130,19 +130,22 @@ indices (Broken place) room = Err place
 
 -- ---- scripts
 
--- a word of a script behind so much: whether a word stands before it, and whether `finish` does
-abbrev pub fault_by : Option Line → ℕ → Bool → (Bool → Option ℕ) → Option ℕ
-fault_by None place finished behind = Some place
-fault_by (Some (Ask key)) place finished behind = behind finished
-fault_by (Some Finish) place false behind = behind true
-fault_by (Some Finish) place true behind = Some place
+-- a word of a script: whether `finish` stands before it in its part, the last bound before it, and what is said of the words behind
+abbrev pub fault_by : Option Line → ℕ → Bool → ℕ → (Bool → ℕ → Option ℕ) → Option ℕ
+fault_by None place finished X behind = Some place
+fault_by (Some (Ask key)) place finished X behind = behind finished X
+fault_by (Some Finish) place false X behind = behind true X
+fault_by (Some Finish) place true X behind = Some place
+fault_by (Some (Grow Y)) place finished X behind = cond (nat_lt X Y) (behind false Y) (Some place)
 
--- the number of the first word that breaks a rule: a script has a word or more, with `finish` at most once
-abbrev pub fault_of : Bool → Bool → Parted → Option ℕ
-fault_of some finished (Next place w s) = fault_by (line_of_word w) place finished (λ once. fault_of true once s)
-fault_of false finished (End place n) = Some place
-fault_of true finished (End place n) = None
-fault_of some finished (Broken place) = Some place
+-- The number of the first word that breaks a rule. A script has a word or more, `finish` stands at most once in each part, before the
+-- first `grow`, between two, and behind the last, and each `grow` has a number above all bounds before it. Behind so much: whether a
+-- word stands before, whether `finish` does in this part, and the last bound.
+abbrev pub fault_of : Bool → Bool → ℕ → Parted → Option ℕ
+fault_of some finished X (Next place w s) = fault_by (line_of_word w) place finished X (λ once Y. fault_of true once Y s)
+fault_of false finished X (End place n) = Some place
+fault_of true finished X (End place n) = None
+fault_of some finished X (Broken place) = Some place
 
 abbrev pub line_then : Option Line → List Line → List Line
 line_then None lines = lines
@@ -164,8 +167,9 @@ abbrev pub script_by : Option ℕ → Reading → Reading
 script_by None reading = reading
 script_by (Some place) reading = Refused place
 
-abbrev pub script : (ℕ → List Line → Reading) → Parted → Reading
-script f s = script_by (fault_of false false s) (f (workers_of s) (lines_of s))
+-- a script behind the bound X
+abbrev pub script : ℕ → (ℕ → List Line → Reading) → Parted → Reading
+script X f s = script_by (fault_of false false X s) (f (workers_of s) (lines_of s))
 
 -- ---- the commands
 
@@ -176,7 +180,7 @@ abbrev pub read_probe : Parted → Reading
 read_probe = reads long_number λ X. ends λ n. Probe X n
 
 abbrev pub read_session : Parted → Reading
-read_session = reads kind_of_word λ kind. reads long_number λ X. script (Session kind X)
+read_session = reads kind_of_word λ kind. reads long_number λ X. script X (Session kind X)
 
 abbrev pub read_relations : Parted → Reading
 read_relations = reads (short_number 1 32) λ N. reads kind_of_word λ kind. ends λ n. Relations N kind

@@ -1,11 +1,11 @@
 -- The words of a script.
-use Rattle.std.specs.Prelude.{ℕ, ◌==◌, List, [], ◌∷◌, length, cond, codes, nat_le, ◌&&◌, Option, Some, None}
+use Rattle.std.specs.Prelude.{ℕ, ◌==◌, List, [], ◌∷◌, length, take, drop, cond, codes, nat_le, ◌&&◌, Option, Some, None}
 use Rattle.std.specs.List.{slice_split}
 use Rattle.std.specs.Str.{bytes_eq}
 use Rattle.airy_math.specs.Keys.{euler, key_of, ordered}
 use Rattle.command_words.specs.declared.line.Line.{Line}
-use Rattle.command_words.specs.declared.line.Line.TheVariants.{Ask, Finish}
-use Rattle.command_words.specs.Words.{short_number}
+use Rattle.command_words.specs.declared.line.Line.TheVariants.{Ask, Finish, Grow}
+use Rattle.command_words.specs.Words.{long_number, short_number}
 
 -- the parts of a word between the letters c
 abbrev pub parts : ℕ → List ℕ → List (List ℕ)
@@ -42,5 +42,12 @@ ask_of_parts (a ∷ g ∷ []) = None
 ask_of_parts (a ∷ g ∷ d ∷ []) = cond (bytes_eq a (codes "ask")) (ask_of_genus (byte_of_word g) (bytes_of_words (parts 44 d))) None
 ask_of_parts (a ∷ g ∷ d ∷ e ∷ ws) = None
 
+abbrev pub grow_to : Option ℕ → Option Line
+grow_to None = None
+grow_to (Some X) = Some (Grow X)
+
+-- `finish`, `grow:X` with a number of 1 to 9 digits, or an ask
 unfoldable pub line_of_word : List ℕ → Option Line
-line_of_word w = cond (bytes_eq w (codes "finish")) (Some Finish) (ask_of_parts (parts 58 w))
+line_of_word w =
+    cond (bytes_eq w (codes "finish")) (Some Finish)
+    (cond (bytes_eq (take 5 w) (codes "grow:")) (grow_to (long_number (drop 5 w))) (ask_of_parts (parts 58 w)))

@@ -7,6 +7,7 @@
 #![tactic(auto)]
 
 mod asked;
+mod bounds;
 mod laws;
 mod line;
 mod numbers;
@@ -18,8 +19,10 @@ mod tests;
 mod words;
 
 pub use asked::{Asked, Kind};
+pub use bounds::{greatest_bound, is_bound};
 pub use laws::first_refused_word;
 pub use line::Line;
+pub use numbers::{read_long, read_short};
 pub use options::{Left, Mode};
 pub use scripts::lines_made;
 pub use words::read_words;

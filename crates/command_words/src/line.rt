@@ -7,4 +7,6 @@ pub enum Line {
     Ask(Key),
     /// Waits until every cell is filled.
     Finish,
+    /// Raises the bound of the session to this one.
+    Grow(u8),
 }

@@ -21,15 +21,15 @@ fn read_number(word: &[u8], most: usize) -> Option<u32>
 }
 
 /// Reads a bound or a seed: 1 to 9 digits.
-pub(crate) fn read_long(word: &str) -> Option<u32>
+pub fn read_long(word: &[u8]) -> Option<u32>
     ensures number { result ≡ long_number word.now }
     ensures below { IfSome result (λ n. n < 10 ^ 9) }
 {
-    read_number(word.as_bytes(), 9)
+    read_number(word, 9)
 }
 
 /// Reads a number of 1 to 3 digits, from `least` to `most`, which is at most 255.
-pub(crate) fn read_short(word: &[u8], least: u8, most: u8) -> Option<u8>
+pub fn read_short(word: &[u8], least: u8, most: u8) -> Option<u8>
     ensures number { result ≡ short_number least most word.now }
     ensures within { IfSome result (λ n. (least ≤ n) × (n ≤ most)) }
 {

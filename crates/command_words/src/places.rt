@@ -67,7 +67,7 @@ pub(crate) fn next_long(left: Left<'_>) -> Result<(u32, Left<'_>), usize>
     ensures below { IfOk result (λ x. x.0 < 10 ^ 9) }
 {
     match next_word(left) {
-        Next::Word { before, word, left } => Ok((read_long(word).ok_or(before)?, left)),
+        Next::Word { before, word, left } => Ok((read_long(word.as_bytes()).ok_or(before)?, left)),
         Next::End { before, workers: _ } | Next::Broken { before } => Err(before),
     }
 }

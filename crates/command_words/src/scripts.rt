@@ -1,11 +1,12 @@
-ghost use Rattle.std.specs.Prelude.{◌≡◌, ◌<◌, ◌∷◌, [], Some, IfOk, IfSome, length};
+ghost use Rattle.std.specs.Prelude.{◌≡◌, ℕ, ◌<◌, ◌∷◌, [], Some, IfOk, IfSome, length, option_map};
 ghost use Rattle.std.specs.Option.{option_map_or};
+ghost use Rattle.command_words.specs.Lines.{Rises};
 ghost use Rattle.command_words.specs.Scripts.{ask_for, ask_of_parts, bytes_of_words, line_of_word, parts};
 ghost use Rattle.command_words.specs.Options.{lines_of};
-ghost use Rattle.command_words.specs.Asked.{parted_of, IsChecked, IsLeft};
+ghost use Rattle.command_words.specs.Asked.{line_as, parted_of, IsChecked, IsLeft};
 
 use crate::Line;
-use crate::numbers::read_short;
+use crate::numbers::{read_long, read_short};
 use crate::options::{Left, Next, next_word};
 use airy_index::Key;
 use arrayvec::ArrayVec;
@@ -23,19 +24,16 @@ fn cut(word: &str, at: char) -> (&str, Option<&str>)
     }
 }
 
-/// Asks for the key of a genus and indices, where there is one.
-fn ask_key(g: u8, idx: &[u8]) -> Option<Line>
-    ensures { result ≡ ask_for g (Some idx.now) }
+/// The key of a genus and indices, where there is one.
+fn ask_key(g: u8, idx: &[u8]) -> Option<Key>
+    ensures { option_map Line.Ask result ≡ ask_for g (Some idx.now) }
 {
-    match Key::of(g, idx) {
-        Ok(key) => Some(Line::Ask(key)),
-        Err(_) => None,
-    }
+    Key::of(g, idx).ok()
 }
 
 /// Reads indices, and asks for their key.
-fn read_key(g: u8, word: &str) -> Option<Line>
-    ensures { result ≡ ask_for g (bytes_of_words (parts 44 word.now)) }
+fn read_key(g: u8, word: &str) -> Option<Key>
+    ensures { option_map Line.Ask result ≡ ask_for g (bytes_of_words (parts 44 word.now)) }
 {
     let mut idx: ArrayVec<u8, 26> = ArrayVec::new();
     let mut rest = word;
@@ -55,8 +53,8 @@ fn read_key(g: u8, word: &str) -> Option<Line>
 
 /// Reads an ask.
 #[tactic(auto, using(crate::proofs::ScriptLemmas::four_parts))]
-fn read_ask(word: &str) -> Option<Line>
-    ensures { result ≡ ask_of_parts (parts 58 word.now) }
+fn read_ask(word: &str) -> Option<Key>
+    ensures { option_map Line.Ask result ≡ ask_of_parts (parts 58 word.now) }
 {
     let (name, behind) = cut(word, ':');
     let (genus, behind) = cut(behind?, ':');
@@ -70,31 +68,48 @@ fn read_ask(word: &str) -> Option<Line>
     read_key(read_short(genus.as_bytes(), 0, 255)?, indices)
 }
 
-/// Reads a word of a script.
-#[tactic(auto, unfolding(crate::specs::Scripts::line_of_word))]
-pub(crate) fn read_line(word: &str) -> Option<Line>
-    ensures { result ≡ line_of_word word.now }
-{
-    if word == "finish" {
-        return Some(Line::Finish);
-    }
-    read_ask(word)
+/// A word of a script. Its bound may be too great for a line.
+#[derive(Drop)]
+pub enum ScriptWord {
+    Ask(Key),
+    Finish,
+    Grow(u32),
 }
 
-/// The number of workers, where the words that are left are a script; or how many words stand before the first that breaks a rule.
-pub(crate) fn check_script(left: Left<'_>) -> Result<u8, usize>
+/// Reads a word of a script.
+#[tactic(auto, unfolding(crate::specs::Scripts::line_of_word))]
+pub(crate) fn read_word(word: &str) -> Option<ScriptWord>
+    ensures { option_map line_as result ≡ line_of_word word.now }
+{
+    if word == "finish" {
+        return Some(ScriptWord::Finish);
+    }
+    if let Some(number) = word.as_bytes().strip_prefix(b"grow:") {
+        return Some(ScriptWord::Grow(read_long(number)?));
+    }
+    Some(ScriptWord::Ask(read_ask(word)?))
+}
+
+/// The number of workers, where the words that are left are a script behind the bound `first`; or how many words stand before the first
+/// that breaks a rule.
+pub(crate) fn check_script(first: u32, left: Left<'_>) -> Result<u8, usize>
     requires { IsLeft left }
-    ensures { IsChecked result (parted_of left.entry) }
+    ensures { IsChecked first result (parted_of left.entry) }
 {
     let mut some = false;
     let mut finished = false;
+    let mut bound = first;
     let mut rest = left;
     loop {
         match next_word(rest) {
             Next::Word { before, word, left } => {
-                match read_line(word) {
-                    Some(Line::Ask(_)) => {}
-                    Some(Line::Finish) if !finished => finished = true,
+                match read_word(word) {
+                    Some(ScriptWord::Ask(_)) => {}
+                    Some(ScriptWord::Finish) if !finished => finished = true,
+                    Some(ScriptWord::Grow(next)) if bound < next => {
+                        finished = false;
+                        bound = next;
+                    }
                     _ => return Err(before),
                 }
                 some = true;
@@ -106,9 +121,11 @@ pub(crate) fn check_script(left: Left<'_>) -> Result<u8, usize>
     }
 }
 
-/// The lines of a script.
+/// The lines of a script whose bounds rise up to 24 at most.
+#[tactic(auto, unfolding(crate::specs::Lines::Rises))]
 pub fn lines_made(alloc: Global, left: Left<'_>) -> Result<Vec<Line>, AllocError>
-    requires { IsLeft left }
+    requires left { IsLeft left }
+    requires rise { (X : ℕ) × Rises X (lines_of (parted_of left)) }
     ensures { IfOk result (λ v. v.items ≡ lines_of (parted_of left.entry)) }
 {
     let mut lines = Vec::new(alloc);
@@ -119,8 +136,11 @@ pub fn lines_made(alloc: Global, left: Left<'_>) -> Result<Vec<Line>, AllocError
         left,
     } = next_word(rest)
     {
-        if let Some(line) = read_line(word) {
-            lines.push(line)?;
+        match read_word(word) {
+            Some(ScriptWord::Ask(key)) => lines.push(Line::Ask(key))?,
+            Some(ScriptWord::Finish) => lines.push(Line::Finish)?,
+            Some(ScriptWord::Grow(bound)) => lines.push(Line::Grow(bound as u8))?,
+            None => {}
         }
         rest = left;
     }

@@ -74,7 +74,6 @@ fn read_probe(left: Left<'_>) -> Result<Asked<'_>, usize>
 }
 
 /// Reads the words behind `session`.
-#[tactic(auto, using(crate::proofs::ScriptLemmas::one_finish))]
 fn read_session(left: Left<'_>) -> Result<Asked<'_>, usize>
     requires { IsLeft left }
     ensures reading { reading_by result ≡ read_session (parted_of left.entry) }
@@ -82,7 +81,7 @@ fn read_session(left: Left<'_>) -> Result<Asked<'_>, usize>
 {
     let (kind, left) = next_kind(left)?;
     let (bound, script) = next_long(left)?;
-    let workers = check_script(script)?;
+    let workers = check_script(bound, script)?;
     Ok(Asked::Session {
         kind,
         bound,

@@ -70,14 +70,22 @@ impl<T: Copy + Default, const N: usize> Chains<T, N> {
         self.firsts[number as usize]
     }
 
+    /// How many items there are.
+    #[inline]
+    pub fn len(&self) -> usize
+        ensures { result ≡ length self.now }
+    {
+        self.linked.len()
+    }
+
     /// The item from which on there are so many, and how many there are from the next one with its number on.
     #[inline]
-    pub fn at(&self, left: u16) -> (T, u16)
+    pub fn at(&self, left: usize) -> (T, u16)
         requires some { 0 < left }
         requires within { left ≤ length self.now }
         ensures { (before after : List (ℕ × T)) (x : ℕ × T) → before ++ x ∷ after ≡ self.now → left ≡ suc (length after) → result ≡ (x.1, from_first x.0 after) }
     {
-        let linked = self.linked[left as usize - 1];
+        let linked = self.linked[left - 1];
         (linked.item, linked.next)
     }
 }

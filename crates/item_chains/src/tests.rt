@@ -5,7 +5,8 @@ use std::test::Fail;
 fn stand_as_put() -> bool {
     let mut chains: Chains<u32, 3> = Chains::new();
     let put = chains.put_first(5, 30) && chains.put_first(7, 20) && chains.put_first(5, 10);
-    put && !chains.put_first(7, 40)
+    put && chains.len() == 3
+        && !chains.put_first(7, 40)
         && chains.first(5) == 3
         && chains.first(7) == 2
         && chains.first(6) == 0

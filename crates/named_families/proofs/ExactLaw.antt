@@ -10,9 +10,11 @@ use Rattle.airy_math.specs.Shapes.{per_g, per_n}
 use Rattle.sparse_tensor.specs.Entries.{Entries, no_entries, looked_up, value_at}
 use Rattle.sparse_tensor.specs.Grades.{IsSmallLaw, keeps, keeps_a}
 use Rattle.sparse_tensor.proofs.GradeLemmas.{eq_z-same}
-use Rattle.named_families.specs.Exact.{exact_shape, exact_b, exact_c, exact_d, is_done, FillsB, FillsC, FillsD, IsBegun, IsFilled}
+use Rattle.airy_curve.specs.Storing.{IsBegun}
+use Rattle.named_families.specs.Exact.{exact_shape, exact_b, exact_c, exact_d, is_done, FillsB, FillsC, FillsD, IsFilled}
 use Rattle.named_families.specs.Families.{StandsFor}
-use Rattle.named_families.proofs.FillLemmas.{when-true, when-false, is_done-none, is_done-all}
+use Rattle.airy_curve.proofs.ValueLemmas.{when-true, when-false}
+use Rattle.named_families.proofs.FillLemmas.{is_done-none, is_done-all}
 
 -- ---- filling
 

@@ -1,20 +1,20 @@
 -- Filling the tensors of an exact law place by place.
-use Rattle.std.proofs.Common.{◌≡◌, ℕ, suc, ◌+◌, ◌*◌, ◌<◌, ◌≤◌, ◌⊎◌, inl, inr, Bool, true, false, ◌&&◌, cond, eqb, [], refl, sym, ap, ap₂, subst, ◌∙◌, arith, pos, ◌-ℤ◌}
+use Rattle.std.proofs.Common.{◌≡◌, ℕ, ◌+◌, ◌*◌, ◌<◌, ◌≤◌, ◌⊎◌, inl, inr, true, false, eqb, [], refl, sym, ap, ap₂, subst, ◌∙◌, arith, pos, ◌-ℤ◌}
 use Rattle.std.specs.Prelude.{min, max, Result, Ok, Err, OnOk}
 use Rattle.std.proofs.lemmas.Int.{ints}
 use Rattle.std.proofs.lemmas.Bool.{cases_eq, cases_lt, eq-eqb}
 use Rattle.airy_math.specs.Shapes.{per_g, per_n}
 use Rattle.std.proofs.lemmas.Bool.Decides.{nat_tests}
-use Rattle.airy_math.specs.Rational.{ℚ, whole, ◌/ℚ◌, lowest_zero, lowest_whole}
+use Rattle.airy_math.specs.Rational.{whole, ◌/ℚ◌}
 use Rattle.airy_math.specs.RationalLaws.{0ℚ, 1ℚ}
 use Rattle.airy_math.specs.Sums.{when}
 use Rattle.airy_math.specs.Tensors.{is_zero}
-use Rattle.sparse_tensor.specs.Entries.{Entry, Entries, looked_up, value_of, with_entry, with_value}
+use Rattle.sparse_tensor.specs.Entries.{Entries, looked_up}
 use Rattle.sparse_tensor.specs.Grades.{AreEntries, keeps, keeps_b, keeps_c, keeps_d}
 use Rattle.sparse_tensor.specs.Puts.{Free, putting_b, putting_c, putting_d, with_b, with_c, with_d}
 use Rattle.sparse_tensor.proofs.GradeLemmas.{eq_z-same}
-use Rattle.sparse_tensor.proofs.SoundLaw.{is_zero-some}
 use Rattle.sparse_tensor.proofs.PutFacts.{puts_b, puts_c, puts_d, putting_b-free, putting_c-free, putting_d-free, same_ordered, same_unordered}
+use Rattle.airy_curve.proofs.ValueLemmas.{and-false, cond-false, cond-true, cond-when, different, eighth-some, is_zero-1ℚ, no_d, same_b, same_c, when-false, when-true, when-zero, whole-some}
 use Rattle.named_families.specs.Exact.{exact_shape, exact_b, exact_c, exact_d, is_done, FillsB, FillsC, FillsD}
 
 -- ---- answers
@@ -23,35 +23,6 @@ use Rattle.named_families.specs.Exact.{exact_shape, exact_b, exact_c, exact_d, i
 pub on_ok_both : {T E : Type 0} (P Q : Type 0) (R : Result T E) → OnOk R P → OnOk R Q → OnOk R (P × Q)
 on_ok_both P Q (Ok x) p q = (p, q)
 on_ok_both P Q (Err e) p q = tt
-
--- ---- values
-
-pub whole-some : (n : ℕ) → is_zero (whole (suc n)) ≡ false
-unfolding whole 0ℚ
-whole-some n = is_zero-some (pos (suc n) /ℚ 1) (λ e. let none = (lowest_zero (pos (suc n)) 1 (lowest_whole (pos (suc n)))).0 e in cc)
-
-pub when-true : (b : Bool) (x : ℚ) → b ≡ true → when b x ≡ x
-unfolding when
-when-true true x h = refl
-when-true false x h = cc
-
-pub when-false : (b : Bool) (x : ℚ) → b ≡ false → when b x ≡ 0ℚ
-unfolding when
-when-false true x h = cc
-when-false false x h = refl
-
-pub when-zero : (b : Bool) (x : ℚ) → x ≡ 0ℚ → when b x ≡ 0ℚ
-unfolding when
-when-zero true x h = h
-when-zero false x h = refl
-
-cond-false : (b : Bool) (x y : ℚ) → b ≡ false → cond b x y ≡ y
-cond-false true x y h = cc
-cond-false false x y h = refl
-
-cond-true : (b : Bool) (x y : ℚ) → b ≡ true → cond b x y ≡ x
-cond-true true x y h = refl
-cond-true false x y h = cc
 
 -- ---- the law
 
@@ -120,10 +91,6 @@ free-b s i j k t sound shape fills p q r h =
     let zero : (looked_up t).B i j k ≡ 0ℚ = fills i j k p q r ∙ when-false (is_done i j i j) (exact_b s i j k) (is_done-here i j) in
     putting_b-free t i j k (whole (2 * j + 1)) sound p q r some graded zero
 
-pub same_b : (a b c i j k : ℕ) → a ≡ i → b ≡ j → c ≡ k → same_ordered a b c i j k ≡ true
-unfolding same_ordered
-same_b a b c i j k p q r = grind (arith, nat_tests)
-
 other_b : (a b c i j k : ℕ) → (a ≡ i → b ≡ j → c ≡ k → ⊥) → same_ordered a b c i j k ≡ false
 unfolding same_ordered
 other_b a b c i j k h = grind (arith, nat_tests)
@@ -190,10 +157,6 @@ exact_c-off : (s i j k : ℕ) → (i ≡ j + k + s + 1 → ⊥) → exact_c s i 
 unfolding exact_c
 exact_c-off s i j k h = when-false (eqb i (j + k + s + 1)) 1ℚ (grind (arith, nat_tests))
 
-pub is_zero-1ℚ : is_zero 1ℚ ≡ false
-unfolding 1ℚ
-is_zero-1ℚ = unfold whole in whole-some 0
-
 -- the next place of C is free
 pub free-c : (s i j k : ℕ) (t : Entries) → AreEntries t → t.shape ≡ exact_shape s → FillsC s i j t → i < t.dim → j ≤ k → i ≡ j + k + s + 1 → putting_c t i j k 1ℚ ≡ Free
 unfolding FillsC
@@ -204,20 +167,6 @@ free-c s i j k t sound shape fills p ordered h =
     let least : min j k ≡ j = omega arith in
     let zero : (looked_up t).C i j k ≡ 0ℚ = fills i j k p below_j below_k ∙ when-false (is_done i j i (min j k)) (exact_c s i j k) (ap (is_done i j i) least ∙ is_done-here i j) in
     putting_c-free t i j k 1ℚ sound p below_j below_k is_zero-1ℚ graded zero
-
-pub same_c : (a b c i j k : ℕ) → a ≡ i → min b c ≡ min j k → max b c ≡ max j k → same_unordered a b c i j k ≡ true
-unfolding same_unordered
-same_c a b c i j k p q r = rw (eq-eqb a i p, eq-eqb (min b c) (min j k) q, eq-eqb (max b c) (max j k) r) refl
-
-pub different : (m n : ℕ) → (m ≡ n → ⊥) → eqb m n ≡ false
-different m n h = grind (arith, nat_tests)
-
-pub and-false : (p q r : Bool) → (p ≡ false) ⊎ (q ≡ false) ⊎ (r ≡ false) → (p && q && r) ≡ false
-and-false p q r (inl h) = rw h refl
-and-false true q r (inr (inl h)) = rw h refl
-and-false true true r (inr (inr h)) = h
-and-false true false r (inr (inr h)) = refl
-and-false false q r (inr h) = refl
 
 -- and once it is put, the walk has come one place further
 pub next-c : (s i j k : ℕ) (t : Entries) → FillsC s i j t → j ≤ k → i ≡ j + k + s + 1 → putting_c t i j k 1ℚ ≡ Free → FillsC s i (j + 1) (with_c t i j k 1ℚ)
@@ -267,23 +216,10 @@ end-c s i m t fills none = λ a b c p q r. elim (cases_eq a i) [
 
 -- ---- D
 
-pub eighth-some : is_zero (pos 1 /ℚ 8) ≡ false
-unfolding is_zero Rattle.airy_math.specs.Rational.ℚ_computes
-eighth-some = refl
-
-pub no_d : (t : Entries) (i : ℕ) → t.d ≡ [] → (looked_up t).D i ≡ 0ℚ
-unfolding looked_up value_of
-no_d t i e = rw e refl
-
 pub free-d : (s : ℕ) (t : Entries) → AreEntries t → t.shape ≡ exact_shape s → t.d ≡ [] → s < t.dim → putting_d t s (pos 1 /ℚ 8) ≡ Free
 free-d s t sound shape none p =
     let graded : keeps_d t.shape s ≡ true = subst (λ shape. keeps_d shape s ≡ true) (sym shape) (keeps_d-exact s) in
     putting_d-free t s (pos 1 /ℚ 8) sound p eighth-some graded (no_d t s none)
-
-pub cond-when : (b : Bool) (x y : ℚ) → y ≡ 0ℚ → cond b x y ≡ when b x
-unfolding when
-cond-when true x y h = refl
-cond-when false x y h = h
 
 pub next-d : (s : ℕ) (t : Entries) → t.d ≡ [] → putting_d t s (pos 1 /ℚ 8) ≡ Free → FillsD s (with_d t s (pos 1 /ℚ 8))
 unfolding FillsD exact_d
@@ -294,32 +230,3 @@ next-d s t none free = λ i p.
 pub skip-d : (s : ℕ) (t : Entries) → t.d ≡ [] → t.dim ≤ s → FillsD s t
 unfolding FillsD exact_d
 skip-d s t none h = λ i p. no_d t i none ∙ sym (when-false (eqb i s) (pos 1 /ℚ 8) (different i s (λ e. omega arith)))
-
--- ---- what a put leaves
-
-pub others-b : (t : Entries) (i j k : ℕ) (v : ℚ) → with_b t i j k v ≡ record t { b = (with_b t i j k v).b }
-unfolding with_b
-others-b t i j k v = by (is_zero v)
-  where
-    by : (z : Bool) → cond z t (record t { b = with_entry (record { i = i; j = j; k = k; v = v }) t.b }) ≡ record t { b = (cond z t (record t { b = with_entry (record { i = i; j = j; k = k; v = v }) t.b })).b }
-    by true = refl
-    by false = refl
-
-pub others-c : (t : Entries) (i j k : ℕ) (v : ℚ) → with_c t i j k v ≡ record t { c = (with_c t i j k v).c }
-unfolding with_c
-others-c t i j k v = by (is_zero v)
-  where
-    x : Entry
-    x = record { i = i; j = min j k; k = max j k; v = v }
-
-    by : (z : Bool) → cond z t (record t { c = with_entry x t.c }) ≡ record t { c = (cond z t (record t { c = with_entry x t.c })).c }
-    by true = refl
-    by false = refl
-
-pub others-d : (t : Entries) (i : ℕ) (v : ℚ) → with_d t i v ≡ record t { d = (with_d t i v).d }
-unfolding with_d
-others-d t i v = by (is_zero v)
-  where
-    by : (z : Bool) → cond z t (record t { d = with_value i v t.d }) ≡ record t { d = (cond z t (record t { d = with_value i v t.d })).d }
-    by true = refl
-    by false = refl

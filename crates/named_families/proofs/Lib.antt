@@ -1,9 +1,3 @@
-pub mod BeginLemmas
-pub mod ClosingLaw
 pub mod ExactLaw
 pub mod FillLemmas
 pub mod NumberLaw
-pub mod PeterssonLaw
-pub mod PutLemmas
-pub mod StepLemmas
-pub mod WalkLemmas

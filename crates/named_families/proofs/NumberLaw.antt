@@ -1,34 +1,24 @@
--- The obtained numbers of Weil and Petersson are their exact numbers.
-use Prim.Native.Nat.{ℕ, zero, suc, ◌+◌, ◌*◌, ◌<◌}
-use mathlib.Core.Path.{◌≡◌, refl, sym, ap, ap₂, ◌∙◌}
-use mathlib.Core.List.{List, [], ◌∷◌}
-use native.Mathlib.Omega.{arith}
-use lib.IntN.{pos, negsuc, ◌*ℤ◌}
+-- The numbers of Weil and Petersson step by step.
+use Rattle.std.proofs.Common.{◌≡◌, ℕ, zero, suc, ◌+◌, ◌-◌, ◌*◌, ◌<◌, ◌≤◌, pos, negsuc, List, get_or, refl, sym, ap, ap₂, ◌∙◌, arith}
+use lib.IntN.{◌*ℤ◌}
 use Rattle.std.specs.Prelude.{Option, Some, None}
 use Rattle.std.proofs.lemmas.Int.{ints}
-use Rattle.airy_math.specs.Rational.{ℚ, ◌+ℚ◌, ◌*ℚ◌, ◌/ℚ◌, neg_ℚ, same_fraction}
-use Rattle.airy_math.specs.RationalLaws.{0ℚ, 1ℚ, mul_fractions, products_q, +ℚ_assoc, 0ℚ_idl}
+use Rattle.airy_math.specs.Obtained.{obtained_product}
+use Rattle.airy_math.specs.Rational.{ℚ, ◌*ℚ◌, ◌/ℚ◌, same_fraction}
+use Rattle.airy_math.specs.RationalLaws.{1ℚ, mul_fractions, products_q}
 use Rattle.airy_math.specs.Sums.{factorial}
-use Rattle.airy_math.specs.Cuts.{power}
-use Rattle.airy_math.specs.Families.{sine, with_sines, c_list, first_of, wp_number}
-use Rattle.airy_math.specs.Obtained.{obtained_sum, both_obtained, ◌⊛◌, obtained_from}
-use Rattle.airy_math.proofs.ObtainedLaw.{sum_exact, product_exact}
-use Rattle.airy_math.proofs.SumLemmas.{0ℚ_idr}
-use Rattle.named_families.specs.Steps.{obtained_u, obtained_products, negative, next_number, numbers_before, obtained_number}
-use Rattle.named_families.proofs.StepLemmas.{none_stays}
-
--- where a number is obtained, it is x
-abbrev pub IsExact : Option ℚ → ℚ → Type 0
-IsExact o x = (w : ℚ) → o ≡ Some w → w ≡ x
-
-some-exact : (x : ℚ) → IsExact (Some x) x
-some-exact x w e = cc
-
-times-exact : (a b : Option ℚ) (x y : ℚ) → IsExact a x → IsExact b y → IsExact (a ⊛ b) (x *ℚ y)
-unfolding ◌⊛◌ both_obtained
-times-exact None b x y p q w e = cc
-times-exact (Some u) None x y p q w e = cc
-times-exact (Some u) (Some v) x y p q w e = product_exact u v w e ∙ ap₂ ◌*ℚ◌ (p u refl) (q v refl)
+use Rattle.airy_math.proofs.ObtainedLaw.{product_exact}
+use Rattle.airy_curve.specs.Curve.{number_of, numbers_down, power, wp_u}
+use Rattle.airy_curve.specs.CurveExamples.{curve_computes}
+use Rattle.airy_curve.specs.StepExamples.{steps_compute}
+use Rattle.airy_curve.specs.Numbers.{Holds}
+use Rattle.airy_curve.specs.Steps.{entry_refusal, first_answer, next_number, or_else, tensors_refusal, unless_obtained}
+use Rattle.airy_curve.specs.Storing as curves
+use Rattle.airy_curve.specs.declared.making.CurveErr.{CurveErr}
+use Rattle.airy_curve.specs.declared.making.CurveErr.TheVariants.{Over, NoMemory}
+use Rattle.airy_curve.proofs.StepLemmas.{held-read}
+use Rattle.named_families.specs.Families.{Names, made_of}
+use Rattle.named_families.specs.Steps.{number_refusal, wp_refusal}
 
 -- ---- u_k
 
@@ -60,9 +50,9 @@ regroup m p x = simp products_q
 regroup-back : (p y r : ℚ) → p *ℚ (y *ℚ r) ≡ (p *ℚ y) *ℚ r
 regroup-back p y r = simp products_q
 
-sine-next : (k : ℕ) → sine (suc k) ≡ sine k *ℚ (negsuc 1 /ℚ (suc k * (2 * suc k + 1)))
-unfolding sine power
-sine-next k =
+pub u-next : (k : ℕ) → wp_u (suc k) ≡ wp_u k *ℚ (negsuc 1 /ℚ (suc k * (2 * suc k + 1)))
+unfolding wp_u power
+u-next k =
     let f = factorial (2 * k + 1) in
     let r = suc k * (2 * suc k + 1) in
     let n = factorial (2 * suc k + 1) in
@@ -78,73 +68,58 @@ sine-next k =
     ∙ sym (mul_fractions (pos 1) (negsuc 1) f r some_f some_r))
     ∙ regroup-back (power (negsuc 3 /ℚ 1) k) (pos 1 /ℚ f) (negsuc 1 /ℚ r)
 
-sine-first : sine 0 ≡ 1ℚ
-unfolding sine power factorial 1ℚ Rattle.airy_math.specs.Rational.ℚ_computes
-sine-first = refl
+pub u-first : wp_u 0 ≡ 1ℚ
+unfolding curve_computes
+u-first = refl
 
-u-exact : (k : ℕ) → IsExact (obtained_u k) (sine k)
-unfolding obtained_u
-u-exact zero w e = some-exact 1ℚ w e ∙ sym sine-first
-u-exact (suc k) w e =
-    let r = negsuc 1 /ℚ (suc k * (2 * suc k + 1)) in
-    times-exact (obtained_u k) (Some r) (sine k) r (u-exact k) (some-exact r) w e ∙ sym (sine-next k)
-
--- ---- c_k
-
--- each is exact
-data AreExact : List (Option ℚ) → List ℚ → Type 0 where
-  none : AreExact [] []
-  one : {o : Option ℚ} {x : ℚ} {os : List (Option ℚ)} {xs : List ℚ} → IsExact o x → AreExact os xs → AreExact (o ∷ os) (x ∷ xs)
-
-from-exact : (os : List (Option ℚ)) (xs : List ℚ) (l : ℕ) (s : ℚ) → AreExact os xs → IsExact (obtained_from (Some s) (obtained_products l os)) (s +ℚ with_sines l xs)
-unfolding obtained_from obtained_products with_sines both_obtained
-from-exact [] [] l s none w e = some-exact s w e ∙ sym (0ℚ_idr s)
-from-exact [] (x ∷ xs) l s x' w e = elim x' [ ]
-from-exact (o ∷ os) [] l s x' w e = elim x' [ ]
-from-exact (o ∷ os) (x ∷ xs) l s (one p ps) w e =
-    by (obtained_u l ⊛ o) (times-exact (obtained_u l) o (sine l) x (u-exact l) p) (λ z. from-exact os xs (suc l) z ps w) e
+-- u_k, where it is obtained of the one before it
+pub u-exact : (k : ℕ) (w : ℚ) → 0 < k → obtained_product (wp_u (k - 1)) (negsuc 1 /ℚ (k * (2 * k + 1))) ≡ Some w → w ≡ wp_u k
+u-exact zero w h e = absurd (omega arith)
+u-exact (suc k) w h e =
+    product_exact (wp_u (suc k - 1)) (negsuc 1 /ℚ (suc k * (2 * suc k + 1))) w e
+    ∙ ap (λ n. wp_u n *ℚ (negsuc 1 /ℚ (suc k * (2 * suc k + 1)))) less
+    ∙ sym (u-next k)
   where
-    rest : List (Option ℚ)
-    rest = obtained_products (suc l) os
+    less : suc k - 1 ≡ k
+    less = omega arith
 
-    clash : obtained_from None rest ≡ Some w → ⊥
-    clash h = absurd (no (sym (none_stays rest) ∙ h))
-      where
-        no : ◌≡◌ {A = Option ℚ} None (Some w) → ⊥
-        no h = cc
+-- the product for u_k, as the array has its factor
+pub u-read : (k : ℕ) (us : List ℚ) (x r : ℚ) → 0 < k → k ≤ 73 → Holds wp_u k us → x ≡ get_or us (k - 1) x → r ≡ negsuc 1 /ℚ (k * (2 * k + 1)) → obtained_product (wp_u (k - 1)) (negsuc 1 /ℚ (k * (2 * k + 1))) ≡ obtained_product x r
+u-read k us x r h most holds is ratio = ap₂ obtained_product (sym (holds.at (k - 1) (omega arith)) ∙ held-read us (k - 1) x (omega (arith, holds.places)) is) (sym ratio)
 
-    Rest : Type 0
-    Rest = (z : ℚ) → obtained_from (Some z) rest ≡ Some w → w ≡ z +ℚ with_sines (suc l) xs
+-- ---- what is named
 
-    added : Rest → (y : ℚ) → y ≡ sine l *ℚ x → (t : Option ℚ) → obtained_sum s y ≡ t → obtained_from t rest ≡ Some w → w ≡ s +ℚ (sine l *ℚ x +ℚ with_sines (suc l) xs)
-    added more y u None q h = absurd (clash h)
-    added more y u (Some z) q h =
-        more z h ∙ ap (λ t. t +ℚ with_sines (suc l) xs) (sum_exact s y z q ∙ ap (λ t. s +ℚ t) u) ∙ +ℚ_assoc _ _ _
+pub number_fine : (k : ℕ) (x y : ℚ) → obtained_product (wp_u (k - 1)) (negsuc 1 /ℚ (k * (2 * k + 1))) ≡ Some x → next_number wp_u (numbers_down wp_u (k - 1)) ≡ Some y → number_refusal k ≡ None
+unfolding number_refusal unless_obtained or_else
+number_fine k x y u c = rw (u, c) refl
 
-    by : (t : Option ℚ) → IsExact t (sine l *ℚ x) → Rest → obtained_from (both_obtained obtained_sum (Some s) t) rest ≡ Some w → w ≡ s +ℚ (sine l *ℚ x +ℚ with_sines (suc l) xs)
-    by None q more h = absurd (clash h)
-    by (Some y) q more h = added more y (q y refl) (obtained_sum s y) refl h
+pub u_refused : (k : ℕ) → obtained_product (wp_u (k - 1)) (negsuc 1 /ℚ (k * (2 * k + 1))) ≡ None → number_refusal k ≡ Some k
+unfolding number_refusal unless_obtained or_else
+u_refused k u = rw u refl
 
-negative-exact : (o : Option ℚ) (x : ℚ) → IsExact o x → IsExact (negative o) (neg_ℚ x)
-unfolding negative
-negative-exact None x p w e = cc
-negative-exact (Some y) x p w e = some-exact (neg_ℚ y) w e ∙ ap neg_ℚ (p y refl)
+pub c_refused : (k : ℕ) (x : ℚ) → obtained_product (wp_u (k - 1)) (negsuc 1 /ℚ (k * (2 * k + 1))) ≡ Some x → next_number wp_u (numbers_down wp_u (k - 1)) ≡ None → number_refusal k ≡ Some k
+unfolding number_refusal unless_obtained or_else
+c_refused k x u c = rw (u, c) refl
 
-zero-exact : (o : Option ℚ) (x : ℚ) → IsExact o (0ℚ +ℚ x) → IsExact o x
-zero-exact o x p w e = p w e ∙ 0ℚ_idl x
+-- 2/3 times 1/8 is obtained
+corner_obtained : unless_obtained 1 (obtained_product (number_of wp_u 1) (pos 1 /ℚ 8)) ≡ None
+unfolding curve_computes steps_compute
+corner_obtained = refl
 
-numbers-exact : (k : ℕ) → AreExact (numbers_before (suc k)) (c_list k)
-unfolding numbers_before next_number c_list
-numbers-exact zero = one (some-exact 1ℚ) none
-numbers-exact (suc k) =
-    one (negative-exact (obtained_from (Some 0ℚ) (obtained_products 1 (numbers_before (suc k)))) (with_sines 1 (c_list k))
-    (zero-exact _ _ (from-exact (numbers_before (suc k)) (c_list k) 1 0ℚ (numbers-exact k)))) (numbers-exact k)
+-- where all numbers are obtained, only the entries can be refused
+pub refusal_of_entries : (dim most : ℕ) → first_answer 1 most number_refusal ≡ None → tensors_refusal (number_of wp_u) dim most ≡ wp_refusal dim most
+unfolding tensors_refusal wp_refusal or_else
+refusal_of_entries dim most none = ap (or_else entries) corner_obtained ∙ none_last entries ∙ ap (λ o. or_else o entries) (sym none)
+  where
+    entries : Option ℕ
+    entries = entry_refusal (number_of wp_u) dim most
 
-first-exact : (o : Option ℚ) (os : List (Option ℚ)) (xs : List ℚ) → AreExact (o ∷ os) xs → IsExact o (first_of xs)
-unfolding first_of
-first-exact o os [] x' = elim x' [ ]
-first-exact o os (x ∷ xs) (one p ps) = p
+    none_last : (o : Option ℕ) → or_else o None ≡ o
+    none_last (Some k) = refl
+    none_last None = refl
 
-pub number-exact : (k : ℕ) (w : ℚ) → obtained_number k ≡ Some w → w ≡ wp_number k
-unfolding obtained_number wp_number numbers_before
-number-exact k w e = first-exact (obtained_number k) (numbers_before k) (c_list k) (numbers-exact k) w e
+-- the refusal of a curve's tensors names what that of wp's does
+pub names_made : (err : CurveErr) (o : Option ℕ) → curves.Names err o → Names (made_of err) o
+unfolding Names curves.Names made_of
+names_made (Over k) o h = h
+names_made NoMemory o h = tt

@@ -2,16 +2,10 @@
 use Prim.Native.Nat.{ℕ, ◌+◌, ◌*◌, ◌≤◌}
 use Rattle.airy_math.specs.Families.{wp_cut}
 use Rattle.airy_math.specs.Named.{wk, bgw}
-use Rattle.airy_math.specs.Relations.{Close}
-use Rattle.airy_relations.specs.NoDifference.{FindsNoDifference}
-use Rattle.airy_relations.specs.Verdicts.{verdict}
-use Rattle.sparse_tensor.specs.Entries.{Entries, looked_up}
+use Rattle.sparse_tensor.specs.Entries.{Entries}
 use Rattle.named_families.specs.Families.{StandsFor, StandsForLettered}
-
 -- The five relations hold in all places below N, so a check of these places never finds that they differ.
-pub record MeetsRelations (t : Entries) (N : ℕ) : Type 0 where
-  pub closes : Close (looked_up t) N
-  pub found : FindsNoDifference (verdict (looked_up t) N)
+pub use Rattle.airy_curve.specs.Storing.{MeetsRelations}
 
 -- N places need 2N + 1 indices, and of wp as many exponents.
 abbrev pub WkCloses : Type 0

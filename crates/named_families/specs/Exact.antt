@@ -2,7 +2,6 @@
 use Prim.Native.Nat.{ℕ, ◌+◌, ◌*◌, ◌<◌, min}
 use mathlib.Core.Path.{◌≡◌}
 use mathlib.Core.Bool.{Bool, ◌&&◌, ◌||◌}
-use mathlib.Core.List.{[]}
 use lib.Dec.{eqb, ltb}
 use lib.IntN.{pos}
 use Rattle.airy_math.specs.Rational.{ℚ, whole, ◌/ℚ◌}
@@ -41,16 +40,6 @@ FillsC shift n m t = (i j k : ℕ) → i < t.dim → j < t.dim → k < t.dim →
 -- D is filled
 unfoldable pub FillsD : ℕ → Entries → Type 0
 FillsD shift t = (i : ℕ) → i < t.dim → (looked_up t).D i ≡ exact_d shift i
-
--- Tensors of the shape, with the entry of A alone, which is 1 at the indices 0, 0 and 0.
-pub record IsBegun (dim : ℕ) (shape : Shape) (letter : Bool) (t : Entries) : Type 0 where
-  pub dim_is : t.dim ≡ dim
-  pub shape_is : t.shape ≡ shape
-  pub letter_is : t.letter ≡ letter
-  pub no_b : t.b ≡ []
-  pub no_c : t.c ≡ []
-  pub no_d : t.d ≡ []
-  pub a_is : (i j k : ℕ) → (looked_up t).A i j k ≡ when (eqb i 0 && eqb j 0 && eqb k 0) 1ℚ
 
 -- The entries of B, C and D are those of the law, and the rest is what it was.
 pub record IsFilled (shift : ℕ) (old new : Entries) : Type 0 where

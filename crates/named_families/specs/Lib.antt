@@ -2,6 +2,4 @@ pub mod Closing
 pub mod Exact
 pub mod Examples
 pub mod Families
-pub mod Filling
-pub mod Numbers
 pub mod Steps

@@ -1,47 +1,26 @@
-ghost use Rattle.std.specs.Prelude.{◌≡◌, ◌≤◌, ◌<◌, ◌+◌, ◌-◌, ◌*◌, IfOk, true, ℕ};
+ghost use Rattle.std.specs.Prelude.{◌≡◌, ◌≤◌, ◌<◌, ◌+◌, ◌-◌, ◌*◌, IfOk, ℕ};
 ghost use Rattle.named_families.specs.Families.{StandsFor, top};
 ghost use Rattle.named_families.specs.Closing.{MeetsRelations};
-ghost use Rattle.named_families.specs.Exact.{IsBegun};
 ghost use Rattle.airy_math.specs.Named as named;
 ghost use Rattle.airy_math.specs.Families.{top_wk, top_bgw};
-ghost use Rattle.sparse_tensor.specs.Grades.{IsSmallLaw, IsAtMost, keeps_a};
 
-use crate::filling::{fill_exact, unless_wanting};
+use crate::filling::fill_exact;
+use airy_curve::{top_of_curve, with_corner};
 use airy_math::Family;
-use frac128::Frac;
 use sparse_tensor::{Law, NoMemory, Shape, Tensors};
 use std::alloc::Global;
 
 /// The greatest index that a table of the family up to the bound can need. The bound is from 1 to 24.
-#[tactic(auto, unfolding(crate::specs::Families::top, airy_math::specs::Families::top_wk, airy_math::specs::Families::top_bgw))]
+#[tactic(auto, unfolding(crate::specs::Families::top, airy_math::specs::Families::top_bgw))]
 pub fn top_of(family: Family, bound: u8) -> u8
     requires some { 0 < bound }
     requires most { bound ≤ 24 }
     ensures { result ≡ top family bound }
 {
     match family {
-        Family::Wk | Family::Wp => bound - 1 + (bound + 1) / 2,
+        Family::Wk | Family::Wp => top_of_curve(bound),
         Family::Bgw => (bound + 1) / 2 - 1,
     }
-}
-
-/// Tensors of the shape, with the entry `A^0_{00} = 1` alone.
-pub(crate) fn with_corner(
-    alloc: Global,
-    dim: u8,
-    shape: Shape,
-    letter: bool,
-) -> Result<Tensors, NoMemory>
-    requires some { 0 < dim }
-    requires most { dim ≤ 72 }
-    requires law { IsSmallLaw shape }
-    requires letter { letter ≡ true → IsAtMost shape }
-    requires graded { keeps_a shape 0 0 0 ≡ true }
-    ensures { IfOk result (IsBegun dim shape letter) }
-{
-    let mut tensors = Tensors::empty(alloc, dim, shape, letter)?;
-    unless_wanting(tensors.put_a(0, 0, 0, Frac::whole(1)))?;
-    Ok(tensors)
 }
 
 /// The tensors of Witten and Kontsevich with all indices below dim, which is from 1 to 72: `A^0_{00} = 1`,

@@ -1,21 +1,9 @@
-ghost use Rattle.std.specs.Prelude.{◌≡◌, ◌≤◌, ◌<◌, ◌+◌, OnOk, IfErr, pos, []};
-ghost use Rattle.airy_math.specs.Rational.{◌/ℚ◌};
+ghost use Rattle.std.specs.Prelude.{◌≡◌, ◌≤◌, ◌<◌, ◌+◌, OnOk, []};
 ghost use Rattle.named_families.specs.Exact.{exact_shape, FillsB, FillsC, FillsD, IsFilled};
 
+use airy_curve::{eighth, unless_wanting};
 use frac128::Frac;
-use sparse_tensor::{NoMemory, PutErr, Tensors};
-use std::alloc::AllocError;
-
-/// The answer of a put that only want of memory can refuse.
-pub(crate) fn unless_wanting(answer: Result<(), PutErr>) -> Result<(), NoMemory>
-    requires { IfErr answer (λ e. e ≡ PutErr.NoMemory) }
-    ensures { OnOk result (answer ≡ Ok tt) }
-{
-    match answer {
-        Ok(()) => Ok(()),
-        Err(_) => Err(AllocError),
-    }
-}
+use sparse_tensor::{NoMemory, Tensors};
 
 /// Puts `B^i_{jk}` for one i and j: `2j + 1` where `i + j = k + shift`.
 fn fill_place_b(tensors: &mut Tensors, shift: u8, i: u8, j: u8) -> Result<(), NoMemory>
@@ -97,16 +85,6 @@ fn fill_c(tensors: &mut Tensors, shift: u8) -> Result<(), NoMemory>
         fill_row_c(tensors, shift, i)?;
     }
     Ok(())
-}
-
-/// One eighth.
-pub(crate) fn eighth() -> Frac
-    ensures { result ≡ pos 1 /ℚ 8 }
-{
-    match Frac::new(1, 8) {
-        Ok(value) => value,
-        Err(_) => unreachable!(),
-    }
 }
 
 /// Puts the entry of D: 1/8 at the shift.

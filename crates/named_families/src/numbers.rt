@@ -1,8 +1,11 @@
-ghost use Rattle.std.specs.Prelude.{◌≡◌, ◌<◌, ◌≤◌, ◌+◌, ◌*◌, suc, negsuc, None, Some, OnOk, IfOk, IfErr};
+ghost use Rattle.std.specs.Prelude.{◌≡◌, ◌<◌, ◌≤◌, ◌+◌, ◌*◌, negsuc, None, Some, OnOk, IfOk, IfErr};
 ghost use Rattle.airy_math.specs.Rational.{◌/ℚ◌};
-ghost use Rattle.named_families.specs.Numbers.{Holds};
-ghost use Rattle.named_families.specs.Steps.{obtained_u, obtained_number, number_refusal, first_answer};
+ghost use Rattle.airy_curve.specs.Curve.{number_of, wp_u};
+ghost use Rattle.airy_curve.specs.Numbers.{Holds};
+ghost use Rattle.airy_curve.specs.Steps.{first_answer};
+ghost use Rattle.named_families.specs.Steps.{number_refusal};
 
+use airy_curve::next_number;
 use frac128::Frac;
 
 /// The factor `-2/(k(2k+1))` from `u_(k-1)` to `u_k`, which is `(-4)^k/(2k+1)!`. k is from 1 to 72.
@@ -18,27 +21,11 @@ fn ratio(k: u8) -> Frac
     }
 }
 
-/// `c_k` for a k from 1 to 72: the negative of the sum of the products of `u_l` and `c_(k-l)` for l from 1 to k.
-fn next_number(u: &[Frac; 73], c: &[Frac; 73], k: u8) -> Option<Frac>
-    requires some { 0 < k }
-    requires most { k ≤ 72 }
-    requires factors { Holds obtained_u (k + 1) u.now }
-    requires numbers { Holds obtained_number k c.now }
-    ensures { result ≡ obtained_number k }
-{
-    let mut sum = Frac::whole(0);
-    for l in 1..k + 1 {
-        let product = u[l as usize].mul(c[(k - l) as usize])?;
-        sum = sum.add(product)?;
-    }
-    Some(sum.neg())
-}
-
 /// The numbers `c_0` to `c_most` of Weil and Petersson, and 1 behind them; or the k of the first step that leaves the
 /// range, where `u_k` or `c_k` isn't obtained. Most is at most 72.
 pub(crate) fn numbers_up_to(most: u8) -> Result<[Frac; 73], u8>
     requires { most ≤ 72 }
-    ensures made { IfOk result (Holds obtained_number (most + 1)) }
+    ensures made { IfOk result (Holds (number_of wp_u) (most + 1)) }
     ensures obtained { OnOk result (first_answer 1 most number_refusal ≡ None) }
     ensures over { IfErr result (λ k. first_answer 1 most number_refusal ≡ Some k) }
 {

@@ -39,14 +39,25 @@ impl Word {
     {
         v.range_fact();
         let (num, den) = v.parts();
+        let num = word(num)?;
         let den = den as u128;
+        if den >> 64 == 0 {
+            // a shift of one word is faster than one of two
+            let den = den as u64;
+            let twos = den.trailing_zeros();
+            return Some(Word {
+                num,
+                odd: den >> twos,
+                twos,
+            });
+        }
         let twos = den.trailing_zeros();
         let odd = den >> twos;
         if odd >> 64 != 0 || twos > 63 {
             return None;
         }
         Some(Word {
-            num: word(num)?,
+            num,
             odd: odd as u64,
             twos,
         })

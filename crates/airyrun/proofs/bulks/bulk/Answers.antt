@@ -16,6 +16,7 @@ returns-in-Ok g c =
       below = c.below_dim.ensures;
       tables = c.same_tables.ensures;
       verdicts = c.same_verdict.ensures;
+      orders = c.no_orders.ensures;
     } in
     bulk_ends laws c.args.seed c.args.dim c.args.bound c.in-Ok.tensors c.in-Ok.ensures.tensors bounded c.print_bulk.ensures.tells _ _ _ c.print_bulk.ensures.ends
 

@@ -1,8 +1,8 @@
 use Rattle.std.proofs.Common.{◌∙◌, ap, subst}
 use Rattle.sparse_tensor.specs.Entries.{looked_up}
 use Rattle.airy_relations.specs.Verdicts.{verdict}
-use Rattle.airyrun.specs.Relations.{IsVerdict}
-use Rattle.airyrun.proofs.RelationLemmas.{verdict_tells}
+use Rattle.run_reports.specs.Relations.{IsVerdict}
+use Rattle.run_reports.proofs.RelationLemmas.{verdict_tells}
 use Rattle.airyrun.proofs.BulkLemmas.{fails_summary, summary_ends}
 use Rattle.airyrun.proofs.bulks.print_bulk.Goals as goal
 

@@ -1,24 +1,32 @@
-use Rattle.std.proofs.Common.{◌≡◌, rules, true, false}
-use Rattle.airyrun.specs.Tables.{is_bound, structure_of}
-use Rattle.airyrun.proofs.RunLemmas.{family_sound}
-use Rattle.airyrun.proofs.HeadlineLemmas.{within_bound}
-use Rattle.airyrun.proofs.TalkLemmas.{bound-leads, making-leads, stored-leads}
+use Rattle.std.proofs.Common.{◌≡◌, true, false, sym, subst, ap, ◌∙◌}
+use Rattle.run_reports.specs.Report.{Ends, bound_refused}
+use Rattle.airyrun.specs.Tables.{ArePlanned, is_bound, making_over, structure_of}
+use Rattle.named_families.specs.Families.{Names}
+use Rattle.std.specs.Prelude.{None}
+use Rattle.command_words.specs.Bounds.{reach}
 use Rattle.command_words.specs.Options.{lines_of}
 use Rattle.command_words.specs.Asked.{parted_of}
+use Rattle.airyrun.proofs.RunLemmas.{family_sound}
+use Rattle.airyrun.proofs.TalkLemmas.{bound-leads, making-leads, stored-leads, reached_bound}
 use Rattle.airyrun.proofs.talk.session_of_family.Goals as goal
-
-pub returns-then-not-is_bound : goal.returns-then-not-is_bound
-returns-then-not-is_bound g c =
-    let no : is_bound c.args.bound ≡ false = search rules in
-    bound-leads (structure_of c.args.family) c.args.bound c.args.workers (lines_of (parted_of c.args.script)) _ _ _ no c.refuse_bound.ensures
-
-pub returns-in-Ok : goal.returns-in-Ok
-returns-in-Ok g c =
-    let bounded : is_bound c.args.bound ≡ true = search rules in
-    stored-leads (structure_of c.args.family) c.args.bound c.args.workers (lines_of (parted_of c.args.script)) _ _ _ c.in-Ok.tensors c.job_uniqueness.ensures c.planned_once.ensures c.below_dim.ensures c.same_tables.ensures (family_sound c.args.family)
-    (within_bound c.args.bound bounded) bounded c.in-Ok.ensures.made c.in-Ok.ensures.planned c.talk_script.ensures
 
 pub returns-in-Err : goal.returns-in-Err
 returns-in-Err g c =
-    let bounded : is_bound c.args.bound ≡ true = search rules in
-    making-leads (structure_of c.args.family) c.args.bound c.args.workers (lines_of (parted_of c.args.script)) _ _ _ c.in-Err.refusal bounded c.in-Err.ensures.over c.refuse_making.ensures
+    let e = c.in-Err.ensures in
+    bound-leads (structure_of c.args.family) c.args.bound c.args.workers (lines_of (parted_of c.args.script)) _ _ _ (subst (λ n. is_bound n ≡ false) e.0 e.1)
+    (subst (λ n. Ends (bound_refused n) (g.W.Sink.state c.args.out.now) (g.W.Sink.state c.refuse_bound.new.out) c.refuse_bound.result) e.0 c.refuse_bound.ensures)
+
+pub returns-in-Ok-tensors_of : goal.returns-in-Ok-tensors_of
+returns-in-Ok-tensors_of g c =
+    let s = structure_of c.args.family in let e = c.in-Ok.ensures in let made = c.in-Ok-tensors_of.ensures in
+    stored-leads s c.args.bound c.args.workers (lines_of (parted_of c.args.script)) _ _ _ c.in-Ok-tensors_of.tensors
+    (record { shown = c.job_session.ensures; once = c.planned_once.ensures; below = c.below_dim.ensures; tables = c.same_tables.ensures })
+    (subst (λ n. ArePlanned c.in-Ok-tensors_of.tensors s n) e.0 made.planned) (family_sound c.args.family) e.1 e.4
+    (reached_bound c.args.bound c.in-Ok.top (lines_of (parted_of c.args.script)) e) (subst (λ n. making_over s n ≡ None) e.0 made.made) c.talk_script.ensures
+
+pub returns-in-Err-tensors_of : goal.returns-in-Err-tensors_of
+returns-in-Err-tensors_of g c =
+    let s = structure_of c.args.family in let e = c.in-Ok.ensures in
+    making-leads s c.args.bound c.args.workers (lines_of (parted_of c.args.script)) _ _ _ c.in-Err-tensors_of.refusal
+    (reached_bound c.args.bound c.in-Ok.top (lines_of (parted_of c.args.script)) e)
+    (subst (λ n. Names c.in-Err-tensors_of.refusal (making_over s n)) e.0 c.in-Err-tensors_of.ensures.over) c.refuse_making.ensures

@@ -1,10 +1,9 @@
-use Rattle.std.proofs.Common.{inr, arith, refl, sym, subst}
+use Rattle.std.proofs.Common.{sym, subst}
 use Rattle.amp_plan.specs.Plans.{tensors_of}
 use Rattle.ask_seats.specs.Asks.{Fails}
 use Rattle.ask_seats.specs.Sessions.{Session}
-use Rattle.airyrun.specs.Report.{Ends, out_of_memory}
 use Rattle.airyrun.specs.Sessions.{EndsReplies, answered}
-use Rattle.airyrun.proofs.TalkLemmas.{spoken-ends, cut-ends, other-ends}
+use Rattle.airyrun.proofs.TalkLemmas.{spoken-ends, cut-ends, memory-ends}
 use Rattle.airyrun.proofs.talk.talk_planned.Goals as goal
 use Rattle.airyrun.proofs.talk.talk_planned.Goals.{in-Ok, in-Err-WriteFault, in-Err-NoMemory}
 
@@ -24,8 +23,7 @@ returns g c =
           (cut-ends s p.bound c.args.lines.now _ _ f.0 f.1 f.2)))
       | in-Err-NoMemory w ↦
           (let f = subst (Fails s p.bound c.args.lines.now (g.W.Sink.state out) (g.W.Sink.state c.session.new.out)) w.in-Err-NoMemory.field-0-is w.in-Err-NoMemory.ensures.fails in
-          let e = subst (λ t. Ends out_of_memory t (g.W.Sink.state w.refuse_memory.new.out) w.refuse_memory.result) f w.refuse_memory.ensures in
           subst (λ n. EndsReplies s p.bound c.args.lines.now answered (g.W.Sink.state out) (g.W.Sink.state c.match-session.out) n) (sym w.result-is)
-          (subst (λ q. EndsReplies s p.bound c.args.lines.now answered (g.W.Sink.state out) (g.W.Sink.state q) w.refuse_memory.result) (sym w.out-is)
-          (other-ends s p.bound c.args.lines.now _ _ answered out_of_memory w.refuse_memory.result (inr refl) (λ z. omega arith) e)))
+          (subst (λ q. EndsReplies s p.bound c.args.lines.now answered (g.W.Sink.state out) (g.W.Sink.state q) w.refuse_behind.result) (sym w.out-is)
+          (memory-ends s p.bound c.args.lines.now _ _ _ w.in-Err-NoMemory.lines w.refuse_behind.result f w.refuse_behind.ensures.first w.refuse_behind.ensures.later)))
     ]

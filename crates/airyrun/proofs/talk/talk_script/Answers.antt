@@ -1,9 +1,9 @@
-use Rattle.std.proofs.Common.{◌≡◌, rules, sym, subst, inr, refl, arith}
+use Rattle.std.proofs.Common.{◌≡◌, false, rules, sym, subst, inr, refl, arith}
 use Rattle.std.specs.Prelude.{List}
-use Rattle.command_words.specs.Lines.{HasOneFinish}
+use Rattle.command_words.specs.Lines.{FinishesOnce, Rises}
 use Rattle.command_words.specs.declared.line.Line.{Line}
 use Rattle.sparse_tensor.specs.Entries.{looked_up}
-use Rattle.airyrun.specs.Report.{out_of_memory}
+use Rattle.run_reports.specs.Report.{out_of_memory}
 use Rattle.airyrun.specs.Sessions.{EndsReplies, stored_session}
 use Rattle.command_words.specs.Options.{lines_of}
 use Rattle.command_words.specs.Asked.{parted_of}
@@ -13,7 +13,12 @@ use Rattle.airyrun.proofs.talk.talk_script.Goals as goal
 pub talk_stored-requires-clause-finish : goal.talk_stored-requires-clause-finish
 talk_stored-requires-clause-finish g c κs within =
     let e : c.deref.result.now ≡ lines_of (parted_of c.args.script) = search rules in
-    subst HasOneFinish (sym e) c.requires.finish
+    subst (FinishesOnce false) (sym e) c.requires.finish
+
+pub talk_stored-requires-clause-rises : goal.talk_stored-requires-clause-rises
+talk_stored-requires-clause-rises g c κs within =
+    let e : c.deref.result.now ≡ lines_of (parted_of c.args.script) = search rules in
+    subst (Rises c.args.bound) (sym e) c.requires.rises
 
 pub returns-in-Ok : goal.returns-in-Ok
 returns-in-Ok g c =

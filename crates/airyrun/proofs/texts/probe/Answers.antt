@@ -1,8 +1,9 @@
 use Rattle.std.proofs.Common.{◌≡◌, refl, rules, true, false}
-use Rattle.airyrun.specs.Report.{bound_refused}
+use Rattle.run_reports.specs.Report.{bound_refused}
 use Rattle.airyrun.specs.Tables.{is_bound}
-use Rattle.airyrun.specs.Run.{beyond, LeadsToProbe}
-use Rattle.airyrun.proofs.TextLemmas.{read_ends, refusal_ends, within_bound}
+use Rattle.run_reports.specs.Leads.{beyond}
+use Rattle.airyrun.specs.Run.{LeadsToProbe}
+use Rattle.run_reports.proofs.TextLemmas.{read_ends, refusal_ends, within_bound}
 use Rattle.airyrun.proofs.texts.probe.Goals as goal
 
 pub returns-then-not-is_bound : goal.returns-then-not-is_bound

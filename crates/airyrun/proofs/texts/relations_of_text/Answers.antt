@@ -1,6 +1,6 @@
 use Rattle.std.proofs.Common.{◌≡◌, rules, min}
 use Rattle.airyrun.specs.Run.{LeadsToTextRelations}
-use Rattle.airyrun.proofs.TextLemmas.{read_ends, refusal_ends}
+use Rattle.run_reports.proofs.TextLemmas.{read_ends, refusal_ends}
 use Rattle.airyrun.proofs.RelationLemmas.{text_ends}
 use Rattle.airyrun.proofs.texts.relations_of_text.Goals as goal
 

@@ -1,25 +1,24 @@
-use Rattle.std.proofs.Common.{◌≡◌, refl, rules, true, false}
-use Rattle.airyrun.specs.Report.{bound_refused}
+use Rattle.std.proofs.Common.{◌≡◌, false, refl, subst}
+use Rattle.run_reports.specs.Report.{Ends, bound_refused}
 use Rattle.airyrun.specs.Tables.{is_bound}
+use Rattle.run_reports.specs.Leads.{beyond}
+use Rattle.command_words.specs.Bounds.{reach}
 use Rattle.command_words.specs.Options.{lines_of}
 use Rattle.command_words.specs.Asked.{parted_of}
-use Rattle.airyrun.specs.Run.{beyond, LeadsToClosedSession}
-use Rattle.airyrun.proofs.TextLemmas.{read_ends, refusal_ends, within_bound}
+use Rattle.airyrun.proofs.TalkLemmas.{reached_bound}
+use Rattle.run_reports.proofs.TextLemmas.{within_bound}
 use Rattle.airyrun.proofs.texts.session_of_text.Goals as goal
 
-pub returns-then-not-is_bound : goal.returns-then-not-is_bound
-returns-then-not-is_bound g c =
-    let no : is_bound c.args.bound ≡ false = search rules in
-    (bound_refused c.args.bound, beyond no refl refl, c.refuse_bound.ensures)
+pub session_within-requires-clause-within : goal.session_within-requires-clause-within
+session_within-requires-clause-within g c κs within = reached_bound c.args.bound _ (lines_of (parted_of c.args.script)) c.in-Ok.ensures
 
 pub returns-in-Ok : goal.returns-in-Ok
-returns-in-Ok g c =
-    let bounded : is_bound c.args.bound ≡ true = search rules in
-    within_bound _ _ _ _ _ _ _ bounded
-    (read_ends (LeadsToClosedSession c.args.bound c.args.workers (lines_of (parted_of c.args.script))) _ _ _ _ _ c.in-Ok.tensors c.in-Ok.ensures.read c.in-Ok.ensures.cause c.talk_closed.ensures)
+returns-in-Ok g c = within_bound _ _ _ _ _ _ _ (reached_bound c.args.bound _ (lines_of (parted_of c.args.script)) c.in-Ok.ensures) c.session_within.ensures
 
 pub returns-in-Err : goal.returns-in-Err
 returns-in-Err g c =
-    let bounded : is_bound c.args.bound ≡ true = search rules in
-    within_bound _ _ _ _ _ _ _ bounded
-    (refusal_ends (LeadsToClosedSession c.args.bound c.args.workers (lines_of (parted_of c.args.script))) _ _ _ _ _ c.in-Err.refusal c.in-Err.ensures.read c.in-Err.ensures.cause c.refuse_text.ensures)
+    let e = c.in-Err.ensures in let Y = reach c.args.bound (lines_of (parted_of c.args.script)) in (
+      bound_refused Y,
+      beyond (subst (λ n. is_bound n ≡ false) e.0 e.1) refl refl,
+      subst (λ n. Ends (bound_refused n) (g.W.Sink.state c.args.out.now) (g.W.Sink.state c.refuse_bound.new.out) c.refuse_bound.result) e.0 c.refuse_bound.ensures,
+    )

@@ -2,10 +2,11 @@ use Rattle.std.proofs.Common.{arith, refl, ◌+◌, ◌≡◌, ◌∙◌, ap, sy
 use Rattle.command_words.specs.Words.{Named, Text, Table, Session, Probe, Relations, Number, Volume, Bulk}
 use Rattle.command_words.specs.Words as words
 use Rattle.command_words.specs.Asked.{kind_of, parted_of}
+use Rattle.command_words.specs.Bounds.{reach}
 use Rattle.command_words.specs.Options.{lines_of}
 use Rattle.command_words.specs.declared.asked.Kind.{Kind}
 use Rattle.command_words.specs.declared.asked.Kind.TheVariants as kinds
-use Rattle.airyrun.specs.Report.{word_refused}
+use Rattle.run_reports.specs.Report.{word_refused}
 use Rattle.airyrun.specs.Run.{LeadsToClosedSession, LeadsToClosedTable, LeadsToProbe, LeadsToTextRelations}
 use Rattle.airyrun.specs.Numbers.{LeadsToNumber, LeadsToVolume}
 use Rattle.airyrun.specs.Bulks.{LeadsToBulk}
@@ -52,7 +53,7 @@ returns-in-Session-Named-default-default-default g c =
 pub returns-in-Session-Text-default-default-default : goal.returns-in-Session-Text-default-default-default
 returns-in-Session-Text-default-default-default g c =
     let in_Text = c.in-Session-Text-default-default-default in let lines = lines_of (parted_of in_Text.script) in
-    answers_with_bound _ (Session Text in_Text.bound in_Text.workers lines) in_Text.bound (LeadsToClosedSession in_Text.bound in_Text.workers lines)
+    answers_with_bound _ (Session Text in_Text.bound in_Text.workers lines) (reach in_Text.bound lines) (LeadsToClosedSession in_Text.bound in_Text.workers lines)
     (of_kind (λ k. Session k in_Text.bound in_Text.workers lines) _ in_Text.kind kinds.Text in_Text.kind-is (in_Text.ensures.reading)) (λ r l. l) (λ h. h) (other_closed_session in_Text.bound in_Text.workers lines) c.session_of_text.ensures
 
 pub returns-in-Number : goal.returns-in-Number

@@ -3,7 +3,7 @@ use Rattle.airy_math.specs.Keys.{euler}
 use Rattle.amp_terms.specs.declared.Outcome.{Outcome}
 use Rattle.correlators.specs.Laws.{VolumeOfSolutions}
 use Rattle.correlators.specs.Volumes.{IsVolume, parts_of}
-use Rattle.airyrun.proofs.ReportLemmas.{full-length}
+use Rattle.run_reports.proofs.ReportLemmas.{full-length}
 use Rattle.airyrun.proofs.NumberLemmas.{TableLaws, holds_full}
 use Rattle.airyrun.proofs.VolumeLemmas.{division_refusal, has_law, quotients_found}
 use Rattle.airyrun.proofs.volumes.print_volume.Goals as goal

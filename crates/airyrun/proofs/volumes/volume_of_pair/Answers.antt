@@ -4,7 +4,7 @@ use Rattle.airy_io.specs.Causes.{Taking}
 use Rattle.airy_math.specs.Keys.{euler}
 use Rattle.airy_math.specs.Jobs.{Wp}
 use Rattle.correlators.specs.Volumes.{counted}
-use Rattle.airyrun.specs.Ends.{EndsByOrWants}
+use Rattle.run_reports.specs.Ends.{EndsByOrWants}
 use Rattle.airyrun.specs.Numbers.{IsQuotients, takes_volume}
 use Rattle.airyrun.specs.Tables.{is_bound, structure_of}
 use Rattle.airyrun.specs.Valued.{IsValued}

@@ -1,15 +1,13 @@
-use Rattle.std.proofs.Common.{arith, rules, ◌≡◌, ◌∷◌, [], refl, sym, ap, ap₂, subst, ◌∙◌}
-use Rattle.airy_math.specs.Splits.{splits}
+use Rattle.std.proofs.Common.{arith, rules, ◌≡◌, [], length, sym, ap, ap₂, subst, ◌∙◌}
+use Rattle.airy_math.specs.Splits.{Split, splits}
 use Rattle.item_chains.specs.Chains.{from_first}
 use Rattle.item_chains.proofs.ChainLemmas.{first-within}
-use Rattle.amp_plan.specs.Measures.{excess}
-use Rattle.amp_plan.specs.Ranked.{NameAllowed, Takes}
+use Rattle.amp_plan.specs.Ranked.{Takes}
 use Rattle.amp_plan.specs.Walk.{split_part, genus_part}
-use Rattle.amp_plan.specs.Shares.{of_share, IsChosen}
-use Rattle.amp_plan.specs.SplitLists.{chain, numbers_of, all_listed}
-use Rattle.amp_plan.proofs.WalkLemmas.{taken-none, taken-more, allowed-next}
-use Rattle.amp_plan.proofs.ChoiceLemmas.{choices-end}
-use Rattle.amp_plan.proofs.ChainWalkLemmas.{all_stand, meets, walked-all}
+use Rattle.amp_plan.specs.Shares.{choice_part, of_share, IsChosen, CanGoOn}
+use Rattle.amp_plan.specs.SplitLists.{chain, all_listed}
+use Rattle.amp_plan.proofs.WalkLemmas.{taken-none}
+use Rattle.amp_plan.proofs.ChainWalkLemmas.{all_stand, meets, met-goes_on, met-taken, met-shorter, walked-all}
 use Rattle.amp_plan.proofs.share.walk_listed.Goals as goal
 
 pub loop-left-init : goal.loop-left-init
@@ -32,33 +30,27 @@ walk_chosen-requires-clause-go_on g c =
     let p = c.args.ranking.now in
     let h = c.args.share.now in
     let I = c.args.list.now.rest.list.items in
+    let all = splits I in
     let stand = all_stand p h I c.requires.share c.requires.room c.requires.right in
-    let m = meets g.V.TermVisitor.allows g.V.TermVisitor.state g.V.TermVisitor.step p h (splits I) c.loop-left.left c.args.visitor.now c.loop-left.visitor c.requires.share c.requires.one stand c.loop-left.invariant.walked c.loop-left-test.true in
-    let met = c.at-next.ensures m.before (all_listed h.per_n m.after) (chain (excess h.per_n m.split.part), numbers_of h.per_n m.split) (m.parts ∙ sym c.requires.listed) m.at in
-    record {
-      split = m.split;
-      chosen = subst (λ d. IsChosen p h [] d m.split) (sym (ap (λ q. q.0) met)) m.chosen;
-      allowed = subst (NameAllowed (g.V.TermVisitor.allows c.loop-left.visitor)) (sym (choices-end p h m.split))
-          (allowed-next g.V.TermVisitor.allows g.V.TermVisitor.state g.V.TermVisitor.step (split_part p h.genus h.pair.a h.pair.b h.pair.weight h.k) (splits I) (m.split ∷ m.after) m.after m.split c.args.visitor.now c.loop-left.visitor refl c.requires.allowed m.taken);
-    }
+    let m = meets g.V.TermVisitor.allows g.V.TermVisitor.state g.V.TermVisitor.step p h all c.requires.share stand c.loop-left.left c.args.visitor.now c.loop-left.visitor c.requires.one c.loop-left.invariant.walked c.loop-left-test.true c.args.list.now.splits c.at-next.result c.requires.listed c.at-next.ensures in
+    subst (CanGoOn (g.V.TermVisitor.allows c.loop-left.visitor) p h []) (sym c.chosen.ensures)
+    (met-goes_on g.V.TermVisitor.allows g.V.TermVisitor.state g.V.TermVisitor.step p h all c.loop-left.left c.at-next.result c.args.visitor.now c.loop-left.visitor m.met c.requires.allowed)
 
 pub loop-left-preserved : goal.loop-left-preserved
 loop-left-preserved g c =
     let p = c.args.ranking.now in
     let h = c.args.share.now in
     let I = c.args.list.now.rest.list.items in
+    let all = splits I in
     let stand = all_stand p h I c.requires.share c.requires.room c.requires.right in
-    let m = meets g.V.TermVisitor.allows g.V.TermVisitor.state g.V.TermVisitor.step p h (splits I) c.loop-left.left c.args.visitor.now c.loop-left.visitor c.requires.share c.requires.one stand c.loop-left.invariant.walked c.loop-left-test.true in
-    let met = c.at-next.ensures m.before (all_listed h.per_n m.after) (chain (excess h.per_n m.split.part), numbers_of h.per_n m.split) (m.parts ∙ sym c.requires.listed) m.at in
-    let chosen = subst (λ d. IsChosen p h [] d m.split) (sym (ap (λ q. q.0) met)) m.chosen in
+    let m = meets g.V.TermVisitor.allows g.V.TermVisitor.state g.V.TermVisitor.step p h all c.requires.share stand c.loop-left.left c.args.visitor.now c.loop-left.visitor c.requires.one c.loop-left.invariant.walked c.loop-left-test.true c.args.list.now.splits c.at-next.result c.requires.listed c.at-next.ensures in
+    let taken = subst (λ x. (s : Split) → IsChosen p h [] x s → Takes g.V.TermVisitor.allows g.V.TermVisitor.state g.V.TermVisitor.step (choice_part p h s []) c.loop-left.visitor c.walk_chosen.new.visitor) c.chosen.ensures c.walk_chosen.ensures in
     record {
-      within = omega (arith, ap (λ q. q.1) met, first-within (chain (excess h.per_n m.split.part)) (all_listed h.per_n m.after), m.at, c.loop-left.invariant.within);
+      within = omega (arith, met-shorter g.V.TermVisitor.allows g.V.TermVisitor.state g.V.TermVisitor.step p h all c.loop-left.left c.at-next.result c.args.visitor.now c.loop-left.visitor m.met, c.loop-left.invariant.within);
       walked = record {
-        ahead = m.after;
-        is = ap (λ q. q.1) met ∙ ap (λ n. from_first n (all_listed h.per_n m.after)) m.same;
-        taken = taken-more g.V.TermVisitor.allows g.V.TermVisitor.state g.V.TermVisitor.step (split_part p h.genus h.pair.a h.pair.b h.pair.weight h.k) (splits I) (m.split ∷ m.after) m.after m.split
-            c.args.visitor.now c.loop-left.visitor c.walk_chosen.new.visitor refl m.taken
-            (subst (λ ts. Takes g.V.TermVisitor.allows g.V.TermVisitor.state g.V.TermVisitor.step ts c.loop-left.visitor c.walk_chosen.new.visitor) (choices-end p h m.split) (c.walk_chosen.ensures m.split chosen));
+        ahead = m.met.after;
+        is = m.met.next ∙ ap (λ n. from_first n (all_listed h.per_n m.met.after)) m.same;
+        taken = met-taken g.V.TermVisitor.allows g.V.TermVisitor.state g.V.TermVisitor.step p h all c.loop-left.left c.at-next.result c.args.visitor.now c.loop-left.visitor m.met c.walk_chosen.new.visitor taken;
       };
     }
 
@@ -67,10 +59,10 @@ loop-left-smaller g c =
     let p = c.args.ranking.now in
     let h = c.args.share.now in
     let I = c.args.list.now.rest.list.items in
+    let all = splits I in
     let stand = all_stand p h I c.requires.share c.requires.room c.requires.right in
-    let m = meets g.V.TermVisitor.allows g.V.TermVisitor.state g.V.TermVisitor.step p h (splits I) c.loop-left.left c.args.visitor.now c.loop-left.visitor c.requires.share c.requires.one stand c.loop-left.invariant.walked c.loop-left-test.true in
-    let met = c.at-next.ensures m.before (all_listed h.per_n m.after) (chain (excess h.per_n m.split.part), numbers_of h.per_n m.split) (m.parts ∙ sym c.requires.listed) m.at in
-    omega (arith, ap (λ q. q.1) met, first-within (chain (excess h.per_n m.split.part)) (all_listed h.per_n m.after), m.at)
+    let m = meets g.V.TermVisitor.allows g.V.TermVisitor.state g.V.TermVisitor.step p h all c.requires.share stand c.loop-left.left c.args.visitor.now c.loop-left.visitor c.requires.one c.loop-left.invariant.walked c.loop-left-test.true c.args.list.now.splits c.at-next.result c.requires.listed c.at-next.ensures in
+    met-shorter g.V.TermVisitor.allows g.V.TermVisitor.state g.V.TermVisitor.step p h all c.loop-left.left c.at-next.result c.args.visitor.now c.loop-left.visitor m.met
 
 pub returns : goal.returns
 unfolding of_share genus_part
@@ -78,5 +70,6 @@ returns g c =
     let p = c.args.ranking.now in
     let h = c.args.share.now in
     let I = c.args.list.now.rest.list.items in
-    walked-all g.V.TermVisitor.allows g.V.TermVisitor.state g.V.TermVisitor.step p h (splits I) c.loop-left.left c.args.visitor.now c.loop-left.visitor c.requires.share c.requires.one
-    (all_stand p h I c.requires.share c.requires.room c.requires.right) c.loop-left.invariant.walked (omega (arith, c.loop-left-test.false))
+    let all = splits I in
+    let stand = all_stand p h I c.requires.share c.requires.room c.requires.right in
+    walked-all g.V.TermVisitor.allows g.V.TermVisitor.state g.V.TermVisitor.step p h all c.requires.share stand c.loop-left.left c.args.visitor.now c.loop-left.visitor c.requires.one c.loop-left.invariant.walked (omega (arith, c.loop-left-test.false))

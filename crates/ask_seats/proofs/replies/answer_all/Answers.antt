@@ -8,7 +8,7 @@ use Rattle.amp_plan.specs.Plans.{Planning, tensors_of}
 use Rattle.ask_seats.specs.Asks.{AreAsks}
 use Rattle.ask_seats.specs.Talks.{Stands, Wrote, Broke}
 use Rattle.command_words.specs.declared.line.Line.{Line}
-use Rattle.ask_seats.proofs.TalkLemmas.{asks-at, key_asked, starts, goes-on, breaks-off}
+use Rattle.ask_seats.proofs.TalkLemmas.{asks-at, asks-behind, key_asked, starts, goes-on, breaks-off}
 use Rattle.ask_seats.proofs.replies.answer_all.Goals as goal
 
 -- the lines before, this one, and those behind it
@@ -23,7 +23,7 @@ listed p q e l = subst (λ (s : Planning). ListsPlanned (tensors_of s) s.bound) 
 
 pub loop-line-init : goal.loop-line-init
 loop-line-init g c =
-    (refl, c.requires.seat, λ r k. k, refl, λ crew stage h. starts _ crew c.args.alone (listed _ c.plan.result.now c.plan.ensures c.planned_fact.ensures) _ stage _ (search rules) h, refl)
+    (refl, c.requires.seat, λ r k. k, refl, λ stage h f. starts _ c.args.pace.workers c.args.pace.finished (listed _ c.plan.result.now c.plan.ensures c.planned_fact.ensures) _ stage _ (search rules) h f, refl)
 
 pub answer_line-requires-clause-asks : goal.answer_line-requires-clause-asks
 answer_line-requires-clause-asks g c =
@@ -34,10 +34,10 @@ returns-in_err-answer_line-clause-cut g c =
     let line = c.line-item.result in let lines = c.args.lines.now in let i : ℕ = c.loop-line.line-index in let low : i < length lines = omega (arith, c.loop-line-test.true) in
     let k = key_asked line (subst (λ x. AreAsks (x ∷ [])) (sym c.line-item.is) (asks-at lines i line low c.requires.asks)) in
     let s = c.in_err-answer_line.ensures.said k.0 k.1 in
-    on_err c.from_residual.result (λ crew stage h.
-    subst (λ ls. Broke (g.B.Cells.plan_of c.args.asker.now.board.now) crew stage ls (g.W.Sink.state c.args.out.now).taken (g.W.Sink.state c.answer_line.new.out).taken) (parted lines i line low c.line-item.is)
-    (breaks-off _ crew c.args.alone (listed _ c.plan.result.now c.plan.ensures c.planned_fact.ensures) (g.B.Cells.Knows c.loop-line.asker.seat) (g.B.Cells.Knows c.answer_line.new.asker.seat) stage (take i lines) line (drop (i + 1) lines) _ (g.W.Sink.state c.loop-line.out).taken _
-    c.in_err-answer_line.ensures.keeps (c.loop-line.invariant.4 crew stage h) (record { key = k.0; asks = k.1; validity_fact = c.in_err-answer_line.ensures.key k.0 k.1; reply = s.reply; hears = subst (λ b. Rattle.ask_seats.specs.Talks.Hears (g.B.Cells.plan_of b.now) c.args.alone k.0 (g.B.Cells.Knows c.loop-line.asker.seat) (g.B.Cells.Knows c.answer_line.new.asker.seat) s.reply) c.loop-line.invariant.0 s.hears; written = s.cut })))
+    on_err c.from_residual.result (λ stage h f.
+    subst (λ ls. Broke (g.B.Cells.plan_of c.args.asker.now.board.now) c.args.pace.workers stage ls (g.W.Sink.state c.args.out.now).taken (g.W.Sink.state c.answer_line.new.out).taken) (parted lines i line low c.line-item.is)
+    (breaks-off _ c.args.pace.workers c.args.pace.finished (listed _ c.plan.result.now c.plan.ensures c.planned_fact.ensures) (g.B.Cells.Knows c.loop-line.asker.seat) (g.B.Cells.Knows c.answer_line.new.asker.seat) stage (take i lines) line (drop (i + 1) lines) _ (g.W.Sink.state c.loop-line.out).taken _
+    c.in_err-answer_line.ensures.keeps (asks-behind lines (i + 1) c.requires.asks) (c.loop-line.invariant.4 stage h f) (record { key = k.0; asks = k.1; validity_fact = c.in_err-answer_line.ensures.key k.0 k.1; reply = s.reply; hears = subst (λ b. Rattle.ask_seats.specs.Talks.Hears (g.B.Cells.plan_of b.now) c.args.pace.workers c.args.pace.finished k.0 (g.B.Cells.Knows c.loop-line.asker.seat) (g.B.Cells.Knows c.answer_line.new.asker.seat) s.reply) c.loop-line.invariant.0 s.hears; written = s.cut })))
 
 pub loop-line-preserved : goal.loop-line-preserved
 loop-line-preserved g c =
@@ -48,14 +48,14 @@ loop-line-preserved g c =
       c.in_ok-answer_line.ensures.seat,
       λ r known. c.in_ok-answer_line.ensures.keeps r (c.loop-line.invariant.2 r known),
       c.in_ok-answer_line.ensures.cause.kept ∙ c.loop-line.invariant.3,
-      λ crew stage h.
-          subst (λ ls. Wrote (g.B.Cells.plan_of c.args.asker.now.board.now) crew c.args.alone (g.B.Cells.Knows c.answer_line.new.asker.seat) stage ls (g.W.Sink.state c.args.out.now).taken (g.W.Sink.state c.answer_line.new.out).taken) (one-more lines i line low c.line-item.is)
-          (goes-on _ crew c.args.alone (listed _ c.plan.result.now c.plan.ensures c.planned_fact.ensures) (g.B.Cells.Knows c.loop-line.asker.seat) (g.B.Cells.Knows c.answer_line.new.asker.seat) stage (take i lines) line _ (g.W.Sink.state c.loop-line.out).taken _
-          c.in_ok-answer_line.ensures.keeps (c.loop-line.invariant.4 crew stage h) (record { key = k.0; asks = k.1; validity_fact = c.in_ok-answer_line.ensures.key k.0 k.1; reply = s.reply; hears = subst (λ b. Rattle.ask_seats.specs.Talks.Hears (g.B.Cells.plan_of b.now) c.args.alone k.0 (g.B.Cells.Knows c.loop-line.asker.seat) (g.B.Cells.Knows c.answer_line.new.asker.seat) s.reply) c.loop-line.invariant.0 s.hears; written = s.written })),
+      λ stage h f.
+          subst (λ ls. Wrote (g.B.Cells.plan_of c.args.asker.now.board.now) c.args.pace.workers c.args.pace.finished (g.B.Cells.Knows c.answer_line.new.asker.seat) stage ls (g.W.Sink.state c.args.out.now).taken (g.W.Sink.state c.answer_line.new.out).taken) (one-more lines i line low c.line-item.is)
+          (goes-on _ c.args.pace.workers c.args.pace.finished (listed _ c.plan.result.now c.plan.ensures c.planned_fact.ensures) (g.B.Cells.Knows c.loop-line.asker.seat) (g.B.Cells.Knows c.answer_line.new.asker.seat) stage (take i lines) line _ (g.W.Sink.state c.loop-line.out).taken _
+          c.in_ok-answer_line.ensures.keeps (c.loop-line.invariant.4 stage h f) (record { key = k.0; asks = k.1; validity_fact = c.in_ok-answer_line.ensures.key k.0 k.1; reply = s.reply; hears = subst (λ b. Rattle.ask_seats.specs.Talks.Hears (g.B.Cells.plan_of b.now) c.args.pace.workers c.args.pace.finished k.0 (g.B.Cells.Knows c.loop-line.asker.seat) (g.B.Cells.Knows c.answer_line.new.asker.seat) s.reply) c.loop-line.invariant.0 s.hears; written = s.written })),
       c.in_ok-answer_line.ensures.standing ∙ c.loop-line.invariant.5,
     )
 
 pub returns-clause-written : goal.returns-clause-written
-returns-clause-written g c = λ crew stage h.
-    subst (λ ls. Wrote (g.B.Cells.plan_of c.args.asker.now.board.now) crew c.args.alone (g.B.Cells.Knows c.loop-line.asker.seat) stage ls (g.W.Sink.state c.args.out.now).taken (g.W.Sink.state c.loop-line.out).taken)
-    (take_all c.loop-line.line-index c.args.lines.now (omega (arith, c.loop-line-test.false))) (c.loop-line.invariant.4 crew stage h)
+returns-clause-written g c = λ stage h f.
+    subst (λ ls. Wrote (g.B.Cells.plan_of c.args.asker.now.board.now) c.args.pace.workers c.args.pace.finished (g.B.Cells.Knows c.loop-line.asker.seat) stage ls (g.W.Sink.state c.args.out.now).taken (g.W.Sink.state c.loop-line.out).taken)
+    (take_all c.loop-line.line-index c.args.lines.now (omega (arith, c.loop-line-test.false))) (c.loop-line.invariant.4 stage h f)

@@ -1,7 +1,5 @@
-use Rattle.std.proofs.Common.{[], ◌∷◌, subst}
-use Rattle.command_words.specs.Lines.{AreAsks}
+use Rattle.ask_seats.proofs.TalkLemmas.{key_asked}
 use Rattle.ask_seats.proofs.replies.answer_line.Goals as goal
 
 pub unreachable-requires : goal.unreachable-requires
-unfolding AreAsks
-unreachable-requires g c = subst (λ x. AreAsks (x ∷ [])) c.in_default.is c.requires.asks
+unreachable-requires g c = let k = key_asked c.args.line.now c.requires.asks in c.in_default.not-Ask k.0 k.1

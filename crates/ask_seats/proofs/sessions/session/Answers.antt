@@ -1,31 +1,114 @@
-use Rattle.std.proofs.Common.{◌≡◌, ℕ, ◌<◌, ◌+◌, Some, None, arith, sym, ap, ◌∙◌, subst}
-use Rattle.std.specs.Prelude.{cond}
+use Rattle.std.proofs.Common.{◌≡◌, ℕ, ◌<◌, ◌≤◌, ◌+◌, [], ◌++◌, List, Option, true, false, true≢false, take, drop, length, arith, refl, sym, ap, ◌∙◌, subst}
+use Rattle.std.proofs.lemmas.List.{take-append-drop}
+use Rattle.std.specs.Prelude.{Result, Ok, Err, IfOk, IfErr, OnOk, None}
+use Rattle.airy_io.specs.Causes.{Taking}
 use Rattle.amp_plan.specs.Needs.{has}
 use Rattle.amp_plan.specs.Plans.{Planning, tensors_of}
 use Rattle.amp_terms.specs.Tables.{full_table}
-use Rattle.cell_words.specs.Deals.{AreAll, receipts_of}
-use Rattle.cell_words.specs.Layout.{cells, outcome_at, IsPartial}
-use Rattle.fill_crew.proofs.CrewLemmas.{full_is}
-use Rattle.ask_seats.specs.Asks.{session_of, Spoken}
-use Rattle.ask_seats.proofs.SeatLemmas.{partial_is}
+use Rattle.cell_words.specs.Layout.{IsPartial}
+use Rattle.cell_words.specs.Resuming.{CanResume}
+use Rattle.cell_words.specs.Seats.{carried_of}
+use Rattle.ask_seats.specs.Sessions.{start}
+use Rattle.ask_seats.specs.Asks.{CutShort, Rises, session_of}
+use Rattle.ask_seats.specs.Talks.{Carried, GoesOn, Paused}
+use Rattle.ask_seats.proofs.SessionLemmas.{stands-first, cut-first, goes-first, ok_map}
 use Rattle.ask_seats.proofs.sessions.session.Goals as goal
 
-pub talk-requires-clause-seats : goal.talk-requires-clause-seats
-talk-requires-clause-seats g c κs within = subst (AreAll c.in-Ok.board) c.in-Some.ensures.items c.in-Ok.ensures.all
+if_ok_map : {T E : Type 0} {P Q : T → Type 0} (r : Result T E) → ((x : T) → P x → Q x) → IfOk r P → IfOk r Q
+if_ok_map (Ok x) f h = f x h
+if_ok_map (Err e) f h = tt
 
-pub returns-clause-table : goal.returns-clause-table
-returns-clause-table g c =
-    subst (λ p. IsPartial p c.close.result.table) c.in-Ok.ensures.plan
-    (partial_is c.in-Ok.board.base.plan c.close.result.table (λ r. has r (receipts_of c.in-Ok-talk.seats.items)) c.close.ensures.len c.close.ensures.table)
+on_ok_map : {T E Q : Type 0} {P : T → Type 0} (r : Result T E) → ((x : T) → P x → Q) → IfOk r P → OnOk r Q
+on_ok_map (Ok x) f h = f x h
+on_ok_map (Err e) f h = tt
 
-pub returns-clause-full : goal.returns-clause-full
-returns-clause-full g c = λ h.
-    let p = c.in-Ok.board.base.plan in
-    full_is p c.close.result.table c.close.ensures.len (λ r l. c.close.ensures.table r l ∙ ap (λ b. cond b (Some (outcome_at p r)) None) (c.in-Ok-talk.ensures.all h r l))
-    ∙ ap (λ (q : Planning). full_table (tensors_of q) q.bound) c.in-Ok.ensures.plan
+if_err_map : {T E : Type 0} {P Q : E → Type 0} (r : Result T E) → ((x : E) → P x → Q x) → IfErr r P → IfErr r Q
+if_err_map (Ok x) f h = tt
+if_err_map (Err e) f h = f e h
+
+none_has : (r : ℕ) → has r [] ≡ true → ⊥
+unfolding has
+none_has r h = true≢false (sym h)
+
+pub talk-requires-clause-knows : goal.talk-requires-clause-knows
+talk-requires-clause-knows g c κs within = λ j d l r h. absurd (none_has r (ap (has r) (sym c.in-Ok.ensures.carried) ∙ h))
+
+pub returns-in_default-talk-clause-fails : goal.returns-in_default-talk-clause-fails
+returns-in_default-talk-clause-fails g c =
+    let p = c.in-Ok.board.base.plan in let lines = c.args.lines.now in let at : ℕ = c.part_end-at.result in let crew : ℕ = c.args.crew in
+    let e = c.in_default-talk.ensures in let same = c.in-Ok.ensures.plan in
+    let old = (g.W.Sink.state c.args.out.now).taken in let new = (g.W.Sink.state c.talk.new.out).taken in
+    let broke = e.cut (start p.bound) (stands-first p crew (λ r. has r (carried_of c.in-Ok.board) ≡ true)) refl in
+    let up = subst (Rises p.bound) (sym (take-append-drop at lines)) (subst (λ (z : Planning). Rises z.bound lines) (sym same) c.requires.rises) in (
+      subst (λ ls. CutShort (session_of c.args.plan crew) c.args.plan.bound ls old new) (take-append-drop at lines)
+          (subst (λ (z : Planning). CutShort (session_of z crew) z.bound (take at lines ++ drop at lines) old new) same (cut-first p crew (take at lines) (drop at lines) old new up broke)),
+      e.cause.failed,
+      e.cause.later,
+    )
+
+pub go_on-requires-clause-left : goal.go_on-requires-clause-left
+go_on-requires-clause-left g c κs within =
+    let e = c.in-Ok-talk.ensures in let t = c.in-Ok-talk.rest.closed.table in record {
+      partial = subst (λ z. IsPartial z t) (sym e.plan) e.table;
+      resumes = subst (λ z. CanResume z t) (sym e.plan) e.resumes;
+      full = λ h. e.full h ∙ ap (λ (z : Planning). full_table (tensors_of z) z.bound) (sym e.plan);
+      many = e.many ∙ c.in-Ok.ensures.board_seats;
+      receipts = e.receipts;
+    }
+
+pub go_on-requires-clause-more : goal.go_on-requires-clause-more
+go_on-requires-clause-more g c κs within =
+    let e = c.part_end-at.ensures in let lines = c.args.lines.now in
+    subst (λ (z : Planning). GoesOn z.bound lines c.part_end-at.result) (sym (c.in-Ok-talk.ensures.plan ∙ c.in-Ok.ensures.plan))
+    (goes-first c.args.plan.bound lines c.part_end-at.result e.part c.requires.rises e.within e.there c.requires.finish)
+
+pub returns-clause-tensors : goal.returns-clause-tensors
+returns-clause-tensors g c =
+    let p = c.in-Ok.board.base.plan in let rest = c.in-Ok-talk.rest in let crew : ℕ = c.args.crew in let ls = take c.part_end-at.result c.args.lines.now in
+    let old = (g.W.Sink.state c.args.out.now).taken in let mid = (g.W.Sink.state c.talk.new.out).taken in
+    let first = subst (λ z. Paused p z crew rest.finished rest.closed.table ls old mid) (sym c.in-Ok-talk.ensures.plan)
+    (record { tensors = refl; wrote = c.in-Ok-talk.ensures.written (start p.bound) (stands-first p crew (λ r. has r (carried_of c.in-Ok.board) ≡ true)) refl }) in
+    let paused = subst (λ z. Paused z rest.closed.plan crew rest.finished rest.closed.table ls old mid) c.in-Ok.ensures.plan first in
+    if_ok_map c.go_on.result (λ x h. (h c.args.plan old paused).0) c.go_on.ensures.spoken
+
+pub returns-clause-bound : goal.returns-clause-bound
+returns-clause-bound g c =
+    let p = c.in-Ok.board.base.plan in let rest = c.in-Ok-talk.rest in let crew : ℕ = c.args.crew in let ls = take c.part_end-at.result c.args.lines.now in
+    let old = (g.W.Sink.state c.args.out.now).taken in let mid = (g.W.Sink.state c.talk.new.out).taken in
+    let first = subst (λ z. Paused p z crew rest.finished rest.closed.table ls old mid) (sym c.in-Ok-talk.ensures.plan)
+    (record { tensors = refl; wrote = c.in-Ok-talk.ensures.written (start p.bound) (stands-first p crew (λ r. has r (carried_of c.in-Ok.board) ≡ true)) refl }) in
+    let paused = subst (λ z. Paused z rest.closed.plan crew rest.finished rest.closed.table ls old mid) c.in-Ok.ensures.plan first in
+    if_ok_map c.go_on.result (λ x h. (h c.args.plan old paused).1) c.go_on.ensures.spoken
 
 pub returns-clause-spoken : goal.returns-clause-spoken
 returns-clause-spoken g c =
-    let many : c.pop.new.self.len ≡ c.args.crew = omega (arith, c.in-Ok.ensures.len, c.in-Some.ensures.cases) in
-    subst (λ n. Spoken (session_of c.args.plan n) c.args.plan.bound c.args.lines.now (g.W.Sink.state c.args.out.now).taken (g.W.Sink.state c.talk.new.out).taken) many
-    (subst (λ (p : Planning). Spoken (session_of p c.pop.new.self.len) p.bound c.args.lines.now (g.W.Sink.state c.args.out.now).taken (g.W.Sink.state c.talk.new.out).taken) c.in-Ok.ensures.plan c.in-Ok-talk.ensures.spoken)
+    let p = c.in-Ok.board.base.plan in let rest = c.in-Ok-talk.rest in let crew : ℕ = c.args.crew in let ls = take c.part_end-at.result c.args.lines.now in
+    let old = (g.W.Sink.state c.args.out.now).taken in let mid = (g.W.Sink.state c.talk.new.out).taken in
+    let first = subst (λ z. Paused p z crew rest.finished rest.closed.table ls old mid) (sym c.in-Ok-talk.ensures.plan)
+    (record { tensors = refl; wrote = c.in-Ok-talk.ensures.written (start p.bound) (stands-first p crew (λ r. has r (carried_of c.in-Ok.board) ≡ true)) refl }) in
+    let paused = subst (λ z. Paused z rest.closed.plan crew rest.finished rest.closed.table ls old mid) c.in-Ok.ensures.plan first in
+    on_ok_map c.go_on.result (λ x h. (h c.args.plan old paused).2) c.go_on.ensures.spoken
+
+pub returns-clause-fails : goal.returns-clause-fails
+returns-clause-fails g c =
+    let p = c.in-Ok.board.base.plan in let rest = c.in-Ok-talk.rest in let crew : ℕ = c.args.crew in let ls = take c.part_end-at.result c.args.lines.now in
+    let old = (g.W.Sink.state c.args.out.now).taken in let mid = (g.W.Sink.state c.talk.new.out).taken in
+    let first = subst (λ z. Paused p z crew rest.finished rest.closed.table ls old mid) (sym c.in-Ok-talk.ensures.plan)
+    (record { tensors = refl; wrote = c.in-Ok-talk.ensures.written (start p.bound) (stands-first p crew (λ r. has r (carried_of c.in-Ok.board) ≡ true)) refl }) in
+    let paused = subst (λ z. Paused z rest.closed.plan crew rest.finished rest.closed.table ls old mid) c.in-Ok.ensures.plan first in
+    if_err_map c.go_on.result (λ x h. h c.args.plan (g.W.Sink.state c.args.out.now) c.requires.rises paused c.in-Ok-talk.ensures.cause.kept) c.go_on.ensures.fails
+
+pub returns-clause-steady : goal.returns-clause-steady
+returns-clause-steady g c = ok_map c.go_on.result (λ h. h ∙ c.in-Ok-talk.ensures.cause.kept) c.go_on.ensures.steady
+
+pub returns-clause-table : goal.returns-clause-table
+returns-clause-table g c = if_ok_map c.go_on.result (λ x h. h.partial) c.go_on.ensures.left
+
+pub returns-clause-full : goal.returns-clause-full
+returns-clause-full g c = if_ok_map c.go_on.result (λ x h. h.full) c.go_on.ensures.left
+
+pub returns-clause-many : goal.returns-clause-many
+returns-clause-many g c = if_ok_map c.go_on.result (λ x h. h.many) c.go_on.ensures.left
+
+pub returns-clause-receipts : goal.returns-clause-receipts
+returns-clause-receipts g c = if_ok_map c.go_on.result (λ x h. h.receipts) c.go_on.ensures.left

@@ -5,7 +5,7 @@ use Rattle.command_words.proofs.scripts.check_script.Given as goal
 
 abbrev pub invariant-loop-before : goal.invariant-loop-before
 invariant-loop-before l = record {
-  fault : fault_of l.some l.finished (parted_of l.rest) ≡ fault_of false false (parted_of l.left);
+  fault : fault_of l.some l.finished l.bound (parted_of l.rest) ≡ fault_of false false l.first (parted_of l.left);
   workers : workers_of (parted_of l.rest) ≡ workers_of (parted_of l.left);
   words : IsLeft l.rest;
 }

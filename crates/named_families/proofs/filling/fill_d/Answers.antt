@@ -4,7 +4,8 @@ use Rattle.sparse_tensor.specs.Entries.{Entries}
 use Rattle.sparse_tensor.specs.Puts.{Free, putting_d, with_d}
 use Rattle.named_families.specs.Exact.{FillsD}
 use Rattle.sparse_tensor.proofs.PutFacts.{allowed_free, at_ok}
-use Rattle.named_families.proofs.FillLemmas.{free-d, next-d, skip-d, others-d}
+use Rattle.airy_curve.proofs.ValueLemmas.{others-d}
+use Rattle.named_families.proofs.FillLemmas.{free-d, next-d, skip-d}
 use Rattle.named_families.proofs.filling.fill_d.Goals as goal
 
 pub returns-then-shift-dim-clause-filled : goal.returns-then-shift-dim-clause-filled

@@ -5,7 +5,8 @@ use Rattle.sparse_tensor.specs.Entries.{Entries}
 use Rattle.sparse_tensor.specs.Puts.{Free, putting_b, with_b}
 use Rattle.named_families.specs.Exact.{FillsB}
 use Rattle.sparse_tensor.proofs.PutFacts.{allowed_free, at_ok}
-use Rattle.named_families.proofs.FillLemmas.{free-b, next-b, skip-b, others-b}
+use Rattle.airy_curve.proofs.ValueLemmas.{others-b}
+use Rattle.named_families.proofs.FillLemmas.{free-b, next-b, skip-b}
 use Rattle.named_families.proofs.filling.fill_place_b.Goals as goal
 use Rattle.named_families.proofs.filling.fill_place_b.Goals.{then-sum-shift-via-then-sum-shift, then-sum-shift-via-else-sum-shift+then-sum-shift-2}
 

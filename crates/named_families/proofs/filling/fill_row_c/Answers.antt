@@ -4,7 +4,8 @@ use Rattle.sparse_tensor.specs.Entries.{Entries}
 use Rattle.sparse_tensor.specs.Puts.{Free, putting_c, with_c}
 use Rattle.named_families.specs.Exact.{exact_shape, FillsC}
 use Rattle.sparse_tensor.proofs.PutFacts.{allowed_free, at_ok}
-use Rattle.named_families.proofs.FillLemmas.{free-c, next-c, end-c, others-c}
+use Rattle.airy_curve.proofs.ValueLemmas.{others-c}
+use Rattle.named_families.proofs.FillLemmas.{free-c, next-c, end-c}
 use Rattle.named_families.proofs.filling.fill_row_c.Goals as goal
 
 pub returns-then-i-shift-clause-filled : goal.returns-then-i-shift-clause-filled

@@ -1,7 +1,7 @@
 use Rattle.std.proofs.Common.{arith}
 use Rattle.airy_math.specs.Named.{bgw}
 use Rattle.sparse_tensor.specs.Entries.{looked_up}
-use Rattle.named_families.proofs.ClosingLaw.{meets}
+use Rattle.airy_curve.proofs.ClosingLemmas.{meets}
 use Rattle.named_families.proofs.laws.bgw_closes.Goals as goal
 
 pub returns : goal.returns

@@ -3,7 +3,7 @@ use Rattle.airy_math.specs.Families.{wp_cut}
 use Rattle.airy_math.specs.RationalLaws.{1ℚ}
 use Rattle.airy_curve.specs.Curve.{wp}
 use Rattle.sparse_tensor.specs.Entries.{looked_up}
-use Rattle.named_families.proofs.ClosingLaw.{meets}
+use Rattle.airy_curve.proofs.ClosingLemmas.{meets}
 use Rattle.named_families.proofs.laws.wp_closes.Goals as goal
 
 pub returns : goal.returns

@@ -1,7 +1,9 @@
 use Rattle.std.proofs.Common.{◌≡◌, ◌+◌, ◌-◌}
-use Rattle.named_families.specs.Numbers.{Holds}
-use Rattle.named_families.specs.Steps.{obtained_u, obtained_number, number_refusal, first_answer}
+use Rattle.airy_curve.specs.Curve.{number_of, wp_u}
+use Rattle.airy_curve.specs.Numbers.{Holds}
+use Rattle.airy_curve.specs.Steps.{first_answer}
+use Rattle.named_families.specs.Steps.{number_refusal}
 use Rattle.named_families.proofs.numbers.numbers_up_to.Given as goal
 
 abbrev pub invariant-loop-k : goal.invariant-loop-k
-invariant-loop-k l = (Holds obtained_u l.k l.u) × (Holds obtained_number l.k l.c) × (first_answer l.k (l.most + 1 - l.k) number_refusal ≡ first_answer 1 l.most number_refusal)
+invariant-loop-k l = (Holds wp_u l.k l.u) × (Holds (number_of wp_u) l.k l.c) × (first_answer l.k (l.most + 1 - l.k) number_refusal ≡ first_answer 1 l.most number_refusal)

@@ -1,9 +1,9 @@
 use Rattle.std.proofs.Common.{◌≡◌, ◌+◌, suc, subst, arith, rules, ℕ}
-use Rattle.std.specs.Prelude.{Result, Ok, Err, IfOk, OnOk, IfErr, None}
+use Rattle.std.specs.Prelude.{IfOk, OnOk, IfErr, None}
 use Rattle.airy_math.specs.Families as exact
 use Rattle.airy_math.specs.Families.{top_wk, wp_cut}
-use Rattle.sparse_tensor.specs.Entries.{Entries, looked_up}
-use Rattle.named_families.specs.declared.petersson.MakeErr.{MakeErr}
+use Rattle.sparse_tensor.specs.Entries.{looked_up}
+use Rattle.airy_curve.proofs.ValueLemmas.{both_ok}
 use Rattle.named_families.specs.Families.{StandsForLettered, Names, top}
 use Rattle.named_families.specs.Steps.{wp_refusal}
 use Rattle.named_families.proofs.petersson.wp.Goals as goal
@@ -33,11 +33,6 @@ unfolding top
 returns-clause-stands c =
     subst (λ m. IfOk c.wp_cut.result (λ t. StandsForLettered t (exact.wp_cut (suc m) m))) c.top_of-top.ensures
     (subst (λ d. IfOk c.wp_cut.result (λ t. StandsForLettered t (exact.wp_cut d c.top_of-top.result))) (one_more c.top_of-top.result) c.wp_cut.ensures.stands)
-
--- what follows of made tensors from two facts of them
-both_ok : (R : Result Entries MakeErr) (P Q S : Entries → Type 0) → ((t : Entries) → P t → Q t → S t) → IfOk R P → IfOk R Q → IfOk R S
-both_ok (Ok t) P Q S f p q = f t p q
-both_ok (Err e) P Q S f p q = tt
 
 pub returns-clause-closes : goal.returns-clause-closes
 unfolding top looked_up wp_cut

@@ -1,13 +1,15 @@
-use Rattle.std.proofs.Common.{◌≡◌, ℕ, ◌<◌, List, [], ◌++◌, length, map, take, drop, get_or, sym, ap, ◌∙◌, subst, arith, Some, None, cond, append-nil, take_all, drop_of_length-le}
+use Rattle.std.proofs.Common.{◌≡◌, ℕ, ◌<◌, List, [], ◌++◌, length, map, take, drop, ◌*◌, nat_eq, get_or, sym, ap, ◌∙◌, subst, arith, Some, None, cond, append-nil, take_all, drop_of_length-le}
 use Rattle.std.specs.Slots.{slots_items}
+use Rattle.std.specs.Option.{is_some}
+use Rattle.cell_words.specs.Countdown.{FILLED}
 use Rattle.amp_plan.specs.Needs.{has}
 use Rattle.amp_plan.specs.Rows.{AreDistinct}
 use Rattle.cell_words.specs.Layout.{outcome_at}
-use Rattle.cell_words.specs.Deals.{AreAll, numbers_in, receipts_of}
+use Rattle.cell_words.specs.Deals.{AreAll, SomeKnows, numbers_in, receipts_of}
 use Rattle.cell_words.proofs.AloneLemmas.{same_numbers}
-use Rattle.cell_words.proofs.CloseLemmas.{last_is, closed_numbers, closed_few, closed_once, closed_low, closed_needs, closed_state}
+use Rattle.cell_words.proofs.CloseLemmas.{last_is, closed_numbers, closed_few, closed_once, closed_low, closed_needs, closed_known, closed_state}
 use Rattle.std.proofs.lemmas.List.{length-map}
-use Rattle.cell_words.proofs.ReceiptLemmas.{first_of, are_receipts, can_resume}
+use Rattle.cell_words.proofs.ReceiptLemmas.{cell_some, first_of, are_receipts, can_resume}
 use Rattle.cell_words.proofs.countdown.Countdown.close.Goals as goal
 
 -- a slice of a whole Vec is written back
@@ -97,3 +99,13 @@ returns-clause-resumes c =
     (λ r l. returns-clause-table c r l ∙ ap (λ xs. cond (has r (receipts_of xs)) (Some (outcome_at p r)) None) (sym same))
     (closed_low b old place e.token e.gathered all ws _ end)
     (closed_needs b old place e.token e.gathered all ws _ end)
+
+pub returns-clause-known : goal.returns-clause-known
+returns-clause-known c = λ r k.
+    let b = c.args.self in let old = c.as_mut_slice.result.now in let e = c.gather-place.ensures in let place = c.gather-place.result in
+    let same : old ≡ c.args.seats.items = c.as_mut_slice.ensures.value in
+    let all : AreAll b old = subst (AreAll b) (sym same) c.requires.seats in
+    let end = c.close_with-closed.ensures.values.2 in let ws = slots_items c.close_with-closed.result.words in
+    let there = closed_known b old place e.token e.gathered all ws _ end r (subst (λ ss. SomeKnows ss r) (sym same) k) in
+    let low = closed_low b old place e.token e.gathered all ws _ end r there in
+    ap is_some (c.read_out-table.ensures.cells r low) ∙ cell_some (nat_eq (get_or ws (5 * r) 0) FILLED) (outcome_at b.base.plan r) ∙ closed_state b old place e.token e.gathered all ws _ end r low ∙ there

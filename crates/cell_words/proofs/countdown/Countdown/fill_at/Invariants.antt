@@ -1,8 +1,9 @@
-use Rattle.std.proofs.Common.{◌≡◌, [], ◌∷◌, ◌++◌, true}
+use Rattle.std.proofs.Common.{◌≡◌, [], ◌∷◌, ◌++◌, true, All}
+use Rattle.amp_plan.specs.Needs.{has, dependents_at}
 use Rattle.std.specs.List.{FoldsTo}
 use Rattle.cell_words.specs.Countdown.{tail_of}
 use Rattle.cell_words.specs.Acts.{act_of, freed_by}
-use Rattle.cell_words.specs.Seats.{IsAtAct, view_of}
+use Rattle.cell_words.specs.Seats.{IsAtAct, view_of, plan_of}
 use Rattle.cell_words.proofs.countdown.Countdown.fill_at.Given as goal
 
 abbrev pub invariant-loop-i : goal.invariant-loop-i
@@ -11,5 +12,6 @@ invariant-loop-i g l = record {
   seen : (view_of l.seat).seen ≡ (view_of l.fn.seat).seen ++ l.fn.rank ∷ [];
   others : tail_of (view_of l.seat).portions ≡ tail_of (view_of l.fn.seat).portions;
   kept : (l.seat.number ≡ l.fn.seat.number) × (l.seat.held ≡ l.fn.seat.held) × (l.seat.done ≡ l.fn.seat.done);
+  freed : All (λ t. has t (dependents_at (plan_of l.self) l.fn.rank) ≡ true) (freed_by (view_of l.seat) l.fn.rank);
   told : FoldsTo (λ p x q. goal.R-step g p x tt q) l.fn.ready (freed_by (view_of l.seat) l.fn.rank) l.ready;
 }

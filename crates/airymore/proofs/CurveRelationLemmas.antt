@@ -1,0 +1,98 @@
+-- What the report of a curve's relations says of them.
+use Rattle.std.proofs.Common.{◌≡◌, ◌≢◌, inl, inr, ℕ, ◌+◌, ◌*◌, ◌≤◌, refl, subst, arith, List}
+use Rattle.std.specs.Prelude.{Option, Some, None}
+use Rattle.airy_io.specs.Causes.{Taking}
+use Rattle.airy_math.specs.Rational.{ℚ}
+use Rattle.airy_math.specs.RationalLaws.{1ℚ}
+use Rattle.airy_math.specs.Relations.{Close}
+use Rattle.sparse_tensor.specs.Entries.{Entries, looked_up}
+use Rattle.airy_relations.specs.declared.verdict.Verdict.{Verdict}
+use Rattle.airy_relations.specs.declared.verdict.Verdict.TheVariants.{Closed, Differs, Over}
+use Rattle.airy_relations.specs.NoDifference.{FindsNoDifference, NoDifferenceLaw}
+use Rattle.airy_relations.specs.SameVerdict.{SameVerdictLaw}
+use Rattle.airy_relations.specs.Verdicts.{verdict}
+use Rattle.airy_curve.specs.Curve.{CurveRelations, curve, number_of, numbers_down, first_or_zero, of_list}
+use Rattle.airy_curve.specs.Shapes.{CurveShapes}
+use Rattle.airy_curve.specs.Steps.{curve_refusal}
+use Rattle.airy_curve.specs.Storing.{Names, StandsFor}
+use Rattle.airy_curve.specs.declared.making.CurveErr.{CurveErr}
+use Rattle.airy_curve.specs.declared.making.CurveErr.TheVariants as error
+use Rattle.run_reports.specs.Ends.{EndsBy}
+use Rattle.run_reports.specs.Report.{Report, Ends, out_of_memory}
+use Rattle.run_reports.specs.Relations.{closed, relations_report}
+use Rattle.run_reports.specs.Tables.{making_report}
+use Rattle.run_reports.proofs.StatusLemmas.{IsPlain, plain_closed, plain_making, plain_relations}
+use Rattle.airymore.specs.Curves.{curve_below, curve_relations_report, curve_error, LeadsToCurveRelations}
+
+-- the laws on the relations of curves
+pub record RelationLaws : Type 0 where
+  pub same : SameVerdictLaw
+  pub never : NoDifferenceLaw
+  pub hold : CurveRelations
+  pub shapes : CurveShapes
+
+-- the stored tensors have the places below n
+pub stored_places : (us : List ℚ) (n : ℕ) (t : Entries) → StandsFor t (curve_below us n) → n ≤ t.dim
+unfolding curve_below curve looked_up
+stored_places us n t stands = omega (arith, stands.entries.dim)
+
+no_four : (v : Verdict) → FindsNoDifference v → (relations_report v closed).status ≢ 4
+unfolding FindsNoDifference relations_report closed
+no_four Closed d = λ e. omega arith
+no_four (Differs rel place left right) d = absurd d
+no_four (Over rel place) d = λ e. omega arith
+
+making_four : (o : Option ℕ) (next : Report) → next.status ≢ 4 → (making_report o next).status ≢ 4
+unfolding making_report
+making_four None next n = n
+making_four (Some k) next n = λ e. omega arith
+
+module _ (laws : RelationLaws) (us : List ℚ) (n : ℕ) where
+  first_is : number_of (of_list us) 0 ≡ 1ℚ
+  unfolding number_of numbers_down first_or_zero
+  first_is = refl
+
+  closes : Close (curve_below us n) n
+  unfolding curve_below
+  closes = laws.hold (number_of (of_list us)) (2 * n + 1) (2 * n + 1) n first_is (omega arith) (omega arith)
+
+  found : FindsNoDifference (verdict (curve_below us n) n)
+  unfolding curve_below
+  found = laws.never (curve_below us n) n (laws.shapes (number_of (of_list us)) (2 * n + 1) (2 * n + 1)).symmetric closes
+
+  relations_lead : LeadsToCurveRelations us n (curve_relations_report us n)
+  unfolding curve_relations_report
+  relations_lead = record {
+    said = inl refl;
+    holds = closes;
+    never = making_four (curve_refusal (of_list us) (2 * n + 1) (2 * n + 1)) _ (no_four (verdict (curve_below us n) n) found);
+  }
+
+  wanting_lead : LeadsToCurveRelations us n out_of_memory
+  wanting_lead = record { said = inr refl; holds = closes; never = λ e. omega arith }
+
+  module _ (w w' : Taking) (status : ℕ) where
+    -- the check of tensors that are made
+    pub checked_ends : (t : Entries) → StandsFor t (curve_below us n) → curve_refusal (of_list us) (2 * n + 1) (2 * n + 1) ≡ None
+        → Ends (relations_report (verdict (looked_up t) n) closed) w w' status → EndsBy (LeadsToCurveRelations us n) w w' status
+    unfolding curve_relations_report making_report looked_up
+    checked_ends t stands made e =
+        let same : verdict (looked_up t) n ≡ verdict (curve_below us n) n = laws.same (looked_up t) (curve_below us n) stands.entries n (stored_places us n t stands) in
+        let said : relations_report (verdict (looked_up t) n) closed ≡ curve_relations_report us n = rw (made, same) refl in
+        (curve_relations_report us n, relations_lead, subst (λ r. Ends r w w' status) said e)
+
+    -- tensors that are not made
+    pub unmade_relations_end : (why : CurveErr) → Names why (curve_refusal (of_list us) (2 * n + 1) (2 * n + 1))
+        → Ends (curve_error why) w w' status → EndsBy (LeadsToCurveRelations us n) w w' status
+    unfolding curve_relations_report curve_error Names making_report
+    unmade_relations_end (error.Over k) named e =
+        let said : curve_error (error.Over k) ≡ curve_relations_report us n = rw named refl in
+        (curve_relations_report us n, relations_lead, subst (λ r. Ends r w w' status) said e)
+    unmade_relations_end error.NoMemory named e = (out_of_memory, wanting_lead, e)
+
+-- ---- its status
+
+pub plain_curve_relations : (us : List ℚ) (n : ℕ) → IsPlain (curve_relations_report us n)
+unfolding curve_relations_report
+plain_curve_relations us n =
+    plain_making (curve_refusal (of_list us) (2 * n + 1) (2 * n + 1)) _ (plain_relations (verdict (curve_below us n) n) closed plain_closed)

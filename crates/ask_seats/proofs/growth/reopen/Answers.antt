@@ -1,0 +1,19 @@
+use Rattle.std.proofs.Common.{◌≡◌, ℕ, ◌<◌, ◌≤◌, ◌+◌, true, arith, sym, ap, ◌∙◌, subst}
+use Rattle.amp_plan.specs.Needs.{has}
+use Rattle.amp_plan.specs.Limits.{limit}
+use Rattle.amp_plan.specs.Plans.{tensors_of}
+use Rattle.cell_words.specs.Countdown.{by_sight}
+use Rattle.cell_words.specs.Resuming.{CanResume}
+use Rattle.ask_seats.specs.Sessions.{bound_after}
+use Rattle.ask_seats.proofs.ReplyLemmas.{grows-up}
+use Rattle.ask_seats.proofs.growth.reopen.Goals as goal
+
+pub resume-requires-clause-can : goal.resume-requires-clause-can
+resume-requires-clause-can c =
+    let p = c.args.closed.plan in let l = limit (tensors_of p) c.args.bound in
+    subst (λ q. CanResume q c.args.closed.table) (sym c.in_ok-plan.ensures.plan)
+    (c.grown_tables.ensures p (bound_after l p.bound c.args.bound) c.args.closed.table (grows-up l p.bound c.args.bound (omega (arith, c.requires.above))).0 c.requires.can)
+
+pub returns-clause-knows : goal.returns-clause-knows
+returns-clause-knows c = λ j d l r h.
+    by_sight r (ap (has r) ((c.in-Ok.ensures.seats j d (omega (arith, l, c.in-Ok.ensures.len, c.in-Ok.seats.ok.0))).seen ∙ sym c.in-Ok.ensures.carried) ∙ h)

@@ -1,0 +1,28 @@
+use crate::numbers::CurveNumbers;
+
+/// What the words ask for.
+#[derive(Drop)]
+pub enum MoreAsked {
+    /// `curve X WORKERS U...`: the table of the curve of the numbers U, with so many workers.
+    Curve {
+        bound: u32,
+        workers: u8,
+        u: CurveNumbers,
+    },
+    /// `curve-relations N U...`: the relations of that curve's tensors, in so many places.
+    CurveRelations {
+        places: u8,
+        u: CurveNumbers,
+    },
+    /// `brackets`: the brackets of the operators of the text of the source.
+    Brackets,
+    /// `quick X WORKERS`: the table of the text of the source, where its relations hold, without a look at any further pivot.
+    Quick {
+        bound: u32,
+        workers: u8,
+    },
+    /// How many words stand before the first that breaks a rule.
+    Refused {
+        before: usize,
+    },
+}

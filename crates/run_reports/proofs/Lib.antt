@@ -1,0 +1,11 @@
+pub mod LimitLemmas
+pub mod RowLemmas
+pub mod ReportLemmas
+pub mod StoredLemmas
+pub mod LineLemmas
+pub mod HeadlineLemmas
+pub mod FormLemmas
+pub mod RelationLemmas
+pub mod TextLemmas
+pub mod StatusLemmas
+pub mod SourceLemmas

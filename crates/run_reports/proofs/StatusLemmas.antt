@@ -1,0 +1,110 @@
+-- The statuses of the reports that a job leads to where no end fails and memory is not wanting.
+use Rattle.std.proofs.Common.{◌≡◌, ◌≢◌, ◌⊎◌, inl, inr, ℕ, ◌<◌, ◌≤◌, arith, refl, ap, length}
+use Rattle.std.specs.Prelude.{Option, Some, None, Bool, true, false, cond, List, nat_le}
+use Rattle.airy_math.specs.Planned.{planned}
+use Rattle.airy_math.specs.Tensors.{Tensors}
+use Rattle.amp_plan.specs.Limits.{Limit, Within, PassesBound, PassesCells, PassesNeeds}
+use Rattle.amp_terms.specs.Tables.{full_table}
+use Rattle.series_law.specs.Check as check
+use Rattle.sparse_tensor.specs.Entries.{Entries, looked_up}
+use Rattle.tensor_text.specs.Grammar.{TextReading, Read, Refused, reading_of}
+use Rattle.airy_relations.specs.declared.verdict.Verdict.{Verdict}
+use Rattle.airy_relations.specs.declared.verdict.Verdict.TheVariants.{Closed, Differs, Over}
+use Rattle.airy_relations.specs.Verdicts.{verdict}
+use Rattle.run_reports.specs.Report.{Report, bound_refused, out_of_memory}
+use Rattle.run_reports.specs.Tables.{making_report, plan_report, cells_report, checked_report, verdict_of}
+use Rattle.command_words.specs.Bounds.{is_bound}
+use Rattle.run_reports.specs.Texts.{text_too_long, line_refused}
+use Rattle.run_reports.specs.Relations.{relations_report, of_relations, closed}
+use Rattle.run_reports.specs.Leads.{of_reading, of_text}
+
+-- a status that is 0, or one from 3 to 7
+pub record IsPlain (report : Report) : Type 0 where
+  pub is : (report.status ≡ 0) ⊎ ((3 ≤ report.status) × (report.status ≤ 7))
+
+-- neither that of a word that is refused, nor that of a failed source
+abbrev pub IsOther : Report → Type 0
+IsOther report = (report.status ≢ 2) × (report.status ≢ 8)
+
+pub plain_other : {r : Report} → IsPlain r → IsOther r
+plain_other {r} plain = by plain.is
+  where
+    by : (r.status ≡ 0) ⊎ ((3 ≤ r.status) × (r.status ≤ 7)) → IsOther r
+    by (inl e) = (λ k. omega arith, λ k. omega arith)
+    by (inr h) = (λ k. omega (arith, h.0, h.1), λ k. omega (arith, h.0, h.1))
+
+-- and not that of want of memory
+pub plain_ample : {r : Report} → IsPlain r → r.status ≢ 10
+plain_ample {r} plain = by plain.is
+  where
+    by : (r.status ≡ 0) ⊎ ((3 ≤ r.status) × (r.status ≤ 7)) → r.status ≢ 10
+    by (inl e) = λ k. omega arith
+    by (inr h) = λ k. omega (arith, h.0, h.1)
+
+pub other_wanting : IsOther out_of_memory
+other_wanting = (λ e. omega arith, λ e. omega arith)
+
+-- those of the relations
+pub plain_closed : IsPlain closed
+unfolding closed
+plain_closed = record { is = inl refl }
+
+pub plain_relations : (v : Verdict) (next : Report) → IsPlain next → IsPlain (relations_report v next)
+unfolding relations_report
+plain_relations Closed next h = h
+plain_relations (Differs rel place left right) next h = record { is = inr (omega arith, omega arith) }
+plain_relations (Over rel place) next h = record { is = inr (omega arith, omega arith) }
+
+pub plain_of : (t : Entries) (next : Report) → IsPlain next → IsPlain (of_relations t next)
+unfolding of_relations
+plain_of t next h = plain_relations (verdict (looked_up t) t.dim) next h
+
+pub plain_making : (o : Option ℕ) (next : Report) → IsPlain next → IsPlain (making_report o next)
+unfolding making_report
+plain_making None next h = h
+plain_making (Some k) next h = record { is = inr (omega arith, omega arith) }
+
+-- those of a text, and of a bound
+pub plain_text : (next : Entries → Report) → ((t : Entries) → IsPlain (next t)) → (text : List ℕ) → IsPlain (of_text next text)
+unfolding of_text of_reading text_too_long line_refused
+plain_text next h text = by (nat_le (length text) 1048576) (reading_of text)
+  where
+    by : (short : Bool) (r : TextReading) → IsPlain (cond short (of_reading next r) text_too_long)
+    by false r = record { is = inr (omega arith, omega arith) }
+    by true (Refused n kind) = record { is = inr (omega arith, omega arith) }
+    by true (Read t) = h t
+
+pub plain_bound : (X : ℕ) (next : Report) → IsPlain next → IsPlain (cond (is_bound X) next (bound_refused X))
+plain_bound X next h = by (is_bound X)
+  where
+    by : (b : Bool) → IsPlain (cond b next (bound_refused X))
+    by false = record { is = inr (omega arith, omega arith) }
+    by true = h
+
+-- those of a plan
+pub plain_plan : (X : ℕ) (l : Limit) (next : Report) → IsPlain next → IsPlain (plan_report X l next)
+unfolding plan_report
+plain_plan X Within next h = h
+plain_plan X PassesBound next h = record { is = inr (omega arith, omega arith) }
+plain_plan X (PassesCells level) next h = record { is = inr (omega arith, omega arith) }
+plain_plan X (PassesNeeds key) next h = record { is = inr (omega arith, omega arith) }
+
+-- and those of its cells
+pub plain_cells : (letter : Bool) (T : Tensors) (X : ℕ) → IsPlain (cells_report letter T X)
+unfolding cells_report checked_report
+plain_cells letter T X = by (verdict_of T X)
+  where
+    by : (v : check.Verdict) → IsPlain (checked_report letter T.shape (planned T X) (full_table T X) v)
+    by check.Solution = record { is = inl refl }
+    by (check.NotValue r) = record { is = inr (omega arith, omega arith) }
+    by (check.Overflow key i) = record { is = inr (omega arith, omega arith) }
+    by (check.Orders key i a j b) = record { is = inr (omega arith, omega arith) }
+
+-- ---- what follows
+
+pub status_of : {report whole : Report} → report ≡ whole → report.status ≡ whole.status
+status_of e = ap (λ (r : Report). r.status) e
+
+pub some_bound : (X : ℕ) → is_bound X ≡ true → 0 < X
+unfolding is_bound
+some_bound X e = grind arith

@@ -1,0 +1,18 @@
+use Rattle.std.proofs.Common.{◌≡◌, ◌-◌, rules, length}
+use Rattle.amp_plan.specs.Plans.{keys_of, key_at}
+use Rattle.run_reports.specs.Forms.{last_of}
+use Rattle.run_reports.proofs.RowLemmas.{row-none}
+use Rattle.run_reports.proofs.FormLemmas.{last-none}
+use Rattle.run_reports.proofs.tables.write_last.Goals as goal
+
+pub returns-in-Some : goal.returns-in-Some
+unfolding last_of key_at
+returns-in-Some g c =
+    let last : length (keys_of c.args.plan.now) - 1 ≡ c.in-Some.last = search rules in
+    rw last c.write_last_rank.ensures
+
+pub returns-in-None : goal.returns-in-None
+returns-in-None g c =
+    let none : length (keys_of c.args.plan.now) ≡ 0 = search rules in
+    rw (last-none c.args.plan.now.tensors.letter c.args.plan.now.tensors.shape (keys_of c.args.plan.now) c.args.table.now none c.requires)
+    (row-none (g.W.Sink.state c.args.out.now) tt)

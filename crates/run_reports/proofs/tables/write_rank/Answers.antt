@@ -1,0 +1,17 @@
+use Rattle.std.proofs.Common.{◌≡◌, rules}
+use Rattle.std.specs.Prelude.{Some, None}
+use Rattle.amp_terms.specs.Tables.{value_at}
+use Rattle.run_reports.specs.Tables.{row_text}
+use Rattle.run_reports.proofs.RowLemmas.{row-none}
+use Rattle.run_reports.proofs.tables.write_rank.Goals as goal
+
+pub returns-in-Some : goal.returns-in-Some
+returns-in-Some g c =
+    let some : value_at c.args.table.now c.args.rank ≡ Some c.in-Some.value = search rules in
+    rw some c.write_row.ensures
+
+pub returns-in-None : goal.returns-in-None
+unfolding row_text
+returns-in-None g c =
+    let none : value_at c.args.table.now c.args.rank ≡ None = search rules in
+    rw none (row-none (g.W.Sink.state c.args.out.now) tt)

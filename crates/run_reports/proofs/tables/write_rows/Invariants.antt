@@ -1,0 +1,11 @@
+use Rattle.std.proofs.Common.{◌≡◌, take}
+use Rattle.std.specs.Io.KnownBytes.{Appends}
+use Rattle.amp_plan.specs.Plans.{keys_of}
+use Rattle.run_reports.specs.Tables.{rows_text}
+use Rattle.run_reports.proofs.tables.write_rows.Given as goal
+
+abbrev pub invariant-loop-rank : goal.invariant-loop-rank
+invariant-loop-rank g l = record {
+  written : Appends (g.W.Sink.state l.initial.out).taken (g.W.Sink.state l.out).taken (rows_text l.plan.tensors.letter l.plan.tensors.shape (take l.rank (keys_of l.plan)) (take l.rank l.table));
+  kept : (g.W.Sink.state l.out).faults ≡ (g.W.Sink.state l.initial.out).faults;
+}

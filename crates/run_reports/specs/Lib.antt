@@ -1,0 +1,11 @@
+-- What a run answers and writes: statuses and the lines of refusals, tables and their summaries.
+pub mod Report
+pub mod Texts
+pub mod Relations
+pub mod Tables
+pub mod Forms
+pub mod Leads
+pub mod Ends
+pub mod Runs
+pub mod Structures
+pub mod Headline

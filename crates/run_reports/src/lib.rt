@@ -1,0 +1,16 @@
+//! What a run answers and writes: statuses and the lines of refusals, tables that are filled, checked and printed, and their summaries.
+#![tactic(auto)]
+
+mod pivots;
+mod relations;
+mod report;
+mod tables;
+mod texts;
+
+pub use pivots::{refuse_orders, refuse_pivot};
+pub use relations::{say_relations, say_verdict};
+pub use report::{
+    put_fraction, refuse, refuse_bound, refuse_key, refuse_memory, refuse_number, refuse_word, say,
+};
+pub use tables::{Form, print_stored, print_table, refuse_plan};
+pub use texts::refuse_text;
