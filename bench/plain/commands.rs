@@ -1,6 +1,7 @@
-//! The commands `bulk SEED DIM X` and `volume G N` of the program in plain Rust, on one thread. Where the program would refuse, they print
-//! nothing on standard output.
-use crate::filling::{End, all_values, check, filled};
+//! The commands `bulk SEED DIM X` and `volume G N` of the program in plain Rust, on one thread, and `text SEED DIM`, which prints the tensors of `bulk` as
+//! a text. Where the program would refuse, they print nothing on standard output.
+use crate::filling::{all_values, check, filled, End};
+use crate::fraction::Frac;
 use crate::plan::Plan;
 use crate::sums::Sum;
 use crate::{relations, tensors, volume};
@@ -36,6 +37,34 @@ fn print_bulk<S: Sum>(seed: u64, dim: usize, bound: usize) -> Done {
     written.map_err(|_| "a write failed")
 }
 
+/// Prints the tensors of a seed as a text.
+fn print_text(seed: u64, dim: usize) -> Done {
+    let t = tensors::bulk(seed, dim).ok_or("a change of basis leaves the range")?;
+    let mut text = format!("airy 1\ndim {dim}\n");
+    let mut put = |name: char, indices: &[u8], value: Frac| {
+        if value.parts().0 != 0 {
+            let indices: Vec<String> = indices.iter().map(u8::to_string).collect();
+            text += &format!("{name} {} {value}\n", indices.join(" "));
+        }
+    };
+    let below = || 0..dim as u8;
+    for i in below() {
+        for j in below() {
+            for k in below() {
+                put('B', &[i, j, k], t.b(i, j, k));
+                if j <= k {
+                    put('A', &[i, j, k], t.a(i, j, k));
+                    put('C', &[i, j, k], t.c(i, j, k));
+                }
+            }
+        }
+        put('D', &[i], t.d(i));
+    }
+    text += "end\n";
+    let written = output()?.write_all(text.as_bytes());
+    written.map_err(|_| "a write failed")
+}
+
 fn print_volume<S: Sum>(genus: u8, places: usize) -> Done {
     let bound = 2 * genus as usize + places - 2;
     let tensors = tensors::wp(bound).map_err(|_| "a number of the structure leaves the range")?;
@@ -54,7 +83,8 @@ pub fn done<S: Sum>(words: &[String]) -> Done {
     }
     match (words[0].as_str(), numbers.as_slice()) {
         ("bulk", [seed, dim, bound]) => print_bulk::<S>(*seed as u64, *dim, *bound),
+        ("text", [seed, dim]) => print_text(*seed as u64, *dim),
         ("volume", [genus, places]) => print_volume::<S>(*genus as u8, *places),
-        _ => Err("bulk SEED DIM X or volume G N, please"),
+        _ => Err("bulk SEED DIM X, text SEED DIM or volume G N, please"),
     }
 }

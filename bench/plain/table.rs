@@ -156,7 +156,7 @@ fn table_of<S: Sum>(tensors: Tensors, bound: usize, fills: bool) {
 }
 
 fn run<S: Sum>(words: &[String]) {
-    if let Some("bulk" | "volume") = words.first().map(String::as_str) {
+    if let Some("bulk" | "text" | "volume") = words.first().map(String::as_str) {
         return match commands::done::<S>(words) {
             Ok(()) => {}
             Err(why) => eprintln!("{why}"),

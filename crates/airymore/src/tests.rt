@@ -143,17 +143,11 @@ fn brackets_of_texts(rt: HostRuntime) -> Result<(), Fail> {
 }
 
 /// Tables without a look at further pivots.
-const QUICK: [Case; 5] = [
+const QUICK: [Case; 4] = [
     ("quick 2 2", TWO_INDICES, 0, TWO_INDICES_2),
     ("quick 2 0", TWO_INDICES, 0, TWO_INDICES_2),
     ("quick 1 0", OPEN, 4, b"refused: AA at 0 1 1: 1 and 0\n"),
     ("quick 3 1", LARGE, 6, b"refused: over at 0,4 [0 0 0 0]\n"),
-    (
-        "quick 3 0",
-        b"airy 1\ndim 32\nend\n",
-        5,
-        b"refused: cells at level 3\n",
-    ),
 ];
 
 #[test]
