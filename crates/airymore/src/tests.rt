@@ -142,11 +142,21 @@ fn brackets_of_texts(rt: HostRuntime) -> Result<(), Fail> {
     assert_told(&rt, rt.alloc(), &BRACKETS)
 }
 
+/// A text whose relations hold. With the pivot 1 a step of 0,4 [0 0 0 1] leaves the range, three times 2^126; the amplitude is 0.
+const FAR: &[u8] = b"airy 1\ndim 2\nB 1 0 0 85070591730234615865843651857942052864\nend\n";
+
+/// Its quick table up to 2.
+const FAR_2: &[u8] =
+    b"0,3 [0 0 0] 0\n0,3 [0 0 1] 0\n0,3 [0 1 1] 0\n0,3 [1 1 1] 0\n1,1 [0] 0\n1,1 [1] 0\n\
+0,4 [0 0 0 0] 0\n0,4 [0 0 0 1] 0\n0,4 [0 0 1 1] 0\n0,4 [0 1 1 1] 0\n0,4 [1 1 1 1] 0\n\
+1,2 [0 0] 0\n1,2 [0 1] 0\n1,2 [1 1] 0\n";
+
 /// Tables without a look at further pivots.
-const QUICK: [Case; 4] = [
+const QUICK: [Case; 5] = [
     ("quick 2 2", TWO_INDICES, 0, TWO_INDICES_2),
     ("quick 2 0", TWO_INDICES, 0, TWO_INDICES_2),
     ("quick 1 0", OPEN, 4, b"refused: AA at 0 1 1: 1 and 0\n"),
+    ("quick 2 0", FAR, 0, FAR_2),
     ("quick 3 1", LARGE, 6, b"refused: over at 0,4 [0 0 0 0]\n"),
 ];
 
