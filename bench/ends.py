@@ -25,6 +25,9 @@ NONE = b""
 JOBS = [
     (0, ONE, "table - 3"),
     (0, NONE, "session wk 2 --workers=2 finish ask:0:0,0,0"),
+    (0, NONE, "session wk 1 --workers=2 finish ask:1:1 grow:2 finish ask:1:1,1 grow:4 finish ask:2:4"),
+    (0, NONE, "session wk 1 --workers=0 grow:2 ask:0:0,0,0,1 finish ask:0:0,0,0,1 grow:3 grow:4 ask:2:4"),
+    (0, b"airy 1\ndim 32\nend\n", "session - 2 --workers=0 ask:1:0 grow:3 ask:1:0"),
     (0, NONE, "volume 1 2"),
     (0, NONE, "bulk 1 2 1"),
     (0, NONE, "table wp 4"),
@@ -63,6 +66,7 @@ LARGER_JOBS = [
     (0, BROAD, "table - 3 --workers=0"),
     (0, NONE, "table wk 14"),
     (0, NONE, "session wk 18 --workers=4 finish ask:0:0,0,0 ask:2:4"),
+    (0, NONE, "session wk 8 --workers=4 finish ask:0:0,0,0 grow:16 finish ask:2:4 grow:18"),
     (0, NONE, "table bgw 24 --workers=16"),
     (0, FULL, "table - 1"),
     (0, NONE, "volume 3 4"),
@@ -136,18 +140,22 @@ class Bench:
 
 
 class Whole:
-    """The answers that a run gives without refusals: one, or for a session each line before `finish` may be `not yet`."""
+    """The answers that a run gives without refusals: one, or for a session that doesn't grow each line before `finish` may be `not yet`."""
 
     def __init__(self, bench, words, text, plain):
         self.status, self.told = plain
         self.early = 0
         parts = words.split()
-        if parts[0] == "session" and "finish" in parts:
+        if parts[0] == "session" and "finish" in parts and "grow:" not in words:
             self.early = sum(part.startswith("ask:") for part in parts[:parts.index("finish")])
         if self.early:
             parts.remove("finish")
             parts.insert(3, "finish")
             self.told = bench.run(" ".join(parts), text)[1]
+
+        # What a session that meets want of memory at a `grow` has written: the lines before that of the `grow`.
+        lines = self.told.splitlines(True)
+        self.cuts = {b"".join(lines[:place]) for place, line in enumerate(lines) if place and line.startswith((b"grown to ", b"not grown: "))}
 
     def is_whole(self, answer):
         if answer[0] != self.status:
@@ -165,6 +173,8 @@ def judge(bench, words, how, whole, answer, no_line):
         return "whole"
     if answer == WANT and not no_line:
         return "line"
+    if answer[0] == 10 and answer[1] in whole.cuts:
+        return "lines"
     if answer == (10, b""):
         return "nothing"
     bench.report(words, how, answer, "whole, nor status 10 with its line" + (" wanting" if no_line else ""))
@@ -180,8 +190,8 @@ def refuse_each(bench, words, text, whole, kind, name, suffix, no_line):
         answer = bench.run(words, text, **{name: f"{number}{suffix}"})
         how = f"{name} {number}{suffix}"
         verdict = judge(bench, words, how, whole, answer, no_line)
-        if verdict == "nothing" and found["line"]:
-            bench.report(words, how, answer, "nothing written after its line was written at a smaller number")
+        if verdict == "nothing" and found["line"] or verdict == "line" and found["lines"]:
+            bench.report(words, how, answer, "more written than at a smaller number")
         if bench.refused(kind):
             found[verdict] += 1
             quiet = 0
@@ -193,12 +203,12 @@ def refuse_each(bench, words, text, whole, kind, name, suffix, no_line):
 
 
 def row(name, how, found):
-    return f"{name[:42]:<44}{how:<15}{sum(found.values()):>6}{found['line']:>10}{found['nothing']:>10}{found['whole']:>8}"
+    return f"{name[:42]:<44}{how:<15}{sum(found.values()):>6}{found['line']:>10}{found['lines']:>10}{found['nothing']:>10}{found['whole']:>8}"
 
 
 def memory(bench):
     """Each job with each allocation, and each start of a thread, refused alone, and with all from it on."""
-    print(f"{'job':<44}{'refused':<15}{'runs':>6}{'10, line':>10}{'10, none':>10}{'whole':>8}")
+    print(f"{'job':<44}{'refused':<15}{'runs':>6}{'10, line':>10}{'10, lines':>10}{'10, none':>10}{'whole':>8}")
     every = collections.Counter()
     for words, text, whole in bench.plain_runs():
         no_line = whole.status == 2 or whole.told.startswith((b"refused: bound", b"refused: terms"))
@@ -337,7 +347,7 @@ def limits(bench):
         sizes.append(sizes[-1] + sizes[-1] // (64 if sizes[-1] < 1 << 25 else 8) >> 12 << 12)
     started = next(size for size in sizes if bench.run("table wk", NONE, limits=[(resource.RLIMIT_AS, size)]) == (2, b"refused: word 3\n"))
     print(f"the system starts the program from {started >> 10} KB of address space on")
-    print(f"{'job':<44}{'least whole':<15}{'runs':>6}{'10, line':>10}{'10, none':>10}{'whole':>8}")
+    print(f"{'job':<44}{'least whole':<15}{'runs':>6}{'10, line':>10}{'10, lines':>10}{'10, none':>10}{'whole':>8}")
     every = collections.Counter()
     for words, text, whole in bench.plain_runs(LARGER_JOBS + JOBS):
         no_line = whole.status == 2 or whole.told.startswith((b"refused: bound", b"refused: terms"))

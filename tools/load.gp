@@ -1,6 +1,7 @@
 /* Tables of airyrun as exact numbers in PARI/GP, and texts of tensors from nested vectors.
 
     T = airy_load("wk8.txt")           what `airyrun table wk 8 > wk8.txt` wrote
+    T = airy_document("wk8.json")      the same from a JSON document, by python3 and tools/load.py: start gp in the folder above tools
     amplitude(T, 1, 2, 0)              5/8, the amplitude F(1,2)[0,2]; the indices may stand in any order
     intersection(T, 2, 4)              1/1152, of a table of wk: <tau_4>_2
     theta_number(T, 2, 1)              3/128, of a table of bgw: <Theta; tau_1>_2
@@ -18,13 +19,16 @@ airy_line(line) =
   [[eval(pair[1]), apply(eval, strsplit(key[2], " "))], eval(strjoin(strsplit(outer[2], " p"), "*'p"))];
 }
 
-airy_load(file) =
+airy_table(lines) =
 {
-  my(lines = readstr(file), entry, table = Map());
+  my(entry, table = Map());
   if (#lines == 0, error("a table without lines"));
   for (r = 1, #lines, entry = airy_line(lines[r]); mapput(table, entry[1], entry[2]));
   table;
 }
+
+airy_load(file) = airy_table(readstr(file));
+airy_document(file) = airy_table(externstr(Str("python3 tools/load.py '", file, "'")));
 
 airy_at(table, g, d) =
 {

@@ -2,6 +2,7 @@
 
     table = load("wk8.txt")            what `airyrun table wk 8 > wk8.txt` wrote
     table = run("airyrun", "table", "wk", "8")         the same without a file
+    table = load_document("wk8.json")  the same from a JSON document, which `airymore json wk 8 0 > wk8.json` or `document.py` wrote
     table[1, (2, 0)]                   5/8, the amplitude F(1,2)[0,2]; the indices may stand in any order
     intersection(table, 2, 4)          1/1152, of a table of wk: <tau_4>_2
     theta_number(table, 2, 1)          3/128, of a table of bgw: <Theta; tau_1>_2
@@ -10,9 +11,13 @@
 
 Numbers are `Fraction`, and those of a table with the letter p are `Polynomial` in p, which stands for pi squared. Under Sage they are elements
 of QQ and of the polynomial ring QQ[p]. A table that was refused is a ValueError with the program's line.
+
+    python3 tools/load.py FILE.json    writes the lines of the document's table, as `airyrun table` does
 """
+import json
 import re
 import subprocess
+import sys
 from fractions import Fraction
 from itertools import product
 from math import factorial, prod
@@ -127,6 +132,32 @@ def run(program, *words, text=""):
     return table_of(subprocess.run([program, *map(str, words)], input=text, stdout=subprocess.PIPE, text=True).stdout)
 
 
+# ---- JSON documents
+
+def letter_law(kind):
+    """The numbers (P, Q) of the law by which a kind's tensors carry the letter, or None where they carry none."""
+    if kind == "wp":
+        return 3, 1
+    found = re.search(r"^\s*shape\s+atmost\s+(\S+)\s+(\S+)\s+letter\s*$", kind, re.MULTILINE)
+    return found and (int(found[1]), int(found[2]))
+
+
+def document_lines(document):
+    """The lines of the table in a document that `json.load` gave. The letter's power, P (g - 1) + Q n less the sum of the indices, is put back."""
+    law = letter_law(document["kind"])
+    for cell in document["cells"]:
+        g, d = cell["g"], cell["i"]
+        e = law[0] * (g - 1) + law[1] * len(d) - sum(d) if law else 0
+        power = "" if e == 0 else " p" if e == 1 else f" p^{e}"
+        yield f"{g},{len(d)} [{' '.join(map(str, d))}] {cell['v']}{power}"
+
+
+def load_document(file):
+    """The table in a file with a JSON document."""
+    with open(file, encoding="utf-8") as it:
+        return table_of("\n".join(document_lines(json.load(it))))
+
+
 # ---- what is counted
 
 def odd_product(d):
@@ -191,3 +222,8 @@ def text_of(A, B, C, D):
     lines = ["airy 1", f"dim {dim}", *_entries("A", A, dim, True), *_entries("B", B, dim, False), *_entries("C", C, dim, True)]
     lines += [f"D {i} {_value(v)}" for i, v in enumerate(D) if _value(v) != 0]
     return "\n".join(lines) + "\nend\n"
+
+
+if __name__ == "__main__":
+    with open(sys.argv[1], encoding="utf-8") as it:
+        print("\n".join(document_lines(json.load(it))))

@@ -15,7 +15,8 @@ from itertools import product
 
 sys.dont_write_bytecode = True
 HERE = os.path.dirname(os.path.abspath(__file__))
-from load import Polynomial, intersection, load, table_of, text_of, theta_number, volume  # noqa: E402
+from document import amplitudes, document, numbers_of  # noqa: E402
+from load import Polynomial, intersection, load, load_document, table_of, text_of, theta_number, volume  # noqa: E402
 
 TABLES = (("wk", 8), ("wp", 5), ("bgw", 11))
 
@@ -93,6 +94,22 @@ def refusals(program):
     yield "an empty text", refused(""), "a table without lines"
 
 
+# ---- JSON documents
+
+def documents(tables, room):
+    """The tables of the folder as documents, loaded again; and the numbers that `document.py` makes itself."""
+    for kind, bound in TABLES:
+        with open(f"{room}/{kind}.txt", encoding="ascii") as it:
+            numbers = numbers_of(it.read())
+        with open(f"{room}/{kind}.json", "w", encoding="ascii") as it:
+            it.write(document(kind, bound, numbers))
+        again, made = load_document(f"{room}/{kind}.json"), amplitudes(kind, bound)
+        yield (kind, "keys"), list(again), list(tables[kind])
+        yield (kind, "made keys"), set(made), set(numbers)
+        yield from (((kind, key), value, again.get(key)) for key, value in tables[kind].items())
+        yield from (((kind, key, "made"), value, made[key]) for key, value in numbers.items())
+
+
 # ---- texts from nested lists
 
 def changed(tensor, slots, t):
@@ -128,12 +145,13 @@ def by_gp(tensors, room):
     names = ", ".join("ABCD")
     lines = [f'read("{HERE}/{name}.gp");' for name in ("load", "../bench/recursion", "equations")]
     lines += [f'{kind} = airy_load("{room}/{kind}.txt"); dump({kind}, "{room}/{kind}.dump");' for kind, _ in TABLES]
+    lines += [f'dump(airy_document("{room}/{kind}.json"), "{room}/{kind}.json.dump");' for kind, _ in TABLES]
     lines += ["print([string_holds(wk), dilaton_holds(wk, intersection, 1), dilaton_holds(bgw, theta_number, 0), by_hand(wk)]);"]
     lines += [f"{name} = {gp_text(tensor)};" for name, tensor in zip("ABCD", tensors)] + [f'airy_write("{room}/copies.txt", {names});']
     lines += [f'iferr(airy_load("{room}/refused.txt"), e, print(e));']
     with open(f"{room}/all.gp", "w", encoding="ascii") as it:
         it.write("\n".join([*lines, "quit"]) + "\n")
-    ran = subprocess.run(["gp", "-q", "-f", f"{room}/all.gp"], stdin=subprocess.DEVNULL, stdout=subprocess.PIPE, stderr=subprocess.STDOUT, text=True)
+    ran = subprocess.run(["gp", "-q", "-f", f"{room}/all.gp"], cwd=f"{HERE}/..", stdin=subprocess.DEVNULL, stdout=subprocess.PIPE, stderr=subprocess.STDOUT, text=True)
     if "***" in ran.stdout or ran.returncode:
         raise Fails(f"gp: {ran.stdout}")
     return ran.stdout.splitlines()
@@ -156,6 +174,7 @@ def gp_checks(program, tables, counts, room):
     for kind, table in tables.items():
         entries = dict(dumped(f"{room}/{kind}.dump"))
         agree(f"gp and Python, entries of {kind}", [((kind, key), entries.get(key), table.get(key)) for key in {*entries, *table}])
+        agree(f"gp, the document of {kind}", [(kind, dict(dumped(f"{room}/{kind}.json.dump")), entries)])
     with open(f"{room}/copies.txt", encoding="ascii") as it:
         agree("gp and Python, lines of a text", [("text", it.read(), text_of(*tensors))])
 
@@ -174,6 +193,7 @@ def checks(program, room):
     agree("terms of volumes, from table wp 5", volumes(program, wp))
     agree("wk in wp", ((key, wp[key], value) for key, value in wk.items() if 2 * key[0] - 2 + len(key[1]) <= wp.bound))
     agree("refusals", refusals(program))
+    agree("JSON documents, and numbers made by other ways", documents(tables, room))
     with open(f"{HERE}/../examples/two_copies.txt", encoding="utf-8") as it:
         agree("text from nested lists", [("text", entries_of(text_of(*two_copies())), entries_of(it.read()))])
     agree("its relations hold", [("line", printed(program, "relations", "2", "-", text=text_of(*two_copies())), "closed\n")])

@@ -1,10 +1,10 @@
 """Runs the commands that pages and examples show, and compares what they print and their status with what stands there.
 
-    python3 tools/transcripts.py PROGRAM MORE FILE..
+    python3 tools/transcripts.py PROGRAM MORE WAITING FILE..
 
 A FILE is a page (`.md`), whose blocks between lines of three backquotes are read, a file `.out`, which is one such block, or a folder with files
 `.out`. In a block a line `$ COMMAND` begins what COMMAND prints; blocks without such a line are left out. COMMAND runs in bash with the programs
-as `airyrun` and `airymore`: that of a `.out` in its folder, that of a page in a folder of its own, in which `examples` is the folder of the examples. There
+as `airyrun`, `airymore` and `airywait`: that of a `.out` in its folder, that of a page in a folder of its own, in which `examples` is the folder of the examples. There
 `$ cat NAME` makes the file where it isn't yet. Behind a printed line four spaces or more may stand with a remark; a remark `status N` is the
 command's status, which is 0 without one.
 """
@@ -69,7 +69,7 @@ def check(programs, files):
     """Returns the number of commands, or prints the first difference and returns None."""
     count = 0
     with tempfile.TemporaryDirectory() as room:
-        for name, program in zip(("airyrun", "airymore"), programs):
+        for name, program in zip(("airyrun", "airymore", "airywait"), programs):
             os.symlink(os.path.realpath(program), f"{room}/{name}")
         path = f"{room}:{os.environ['PATH']}"
         for number, file in enumerate(files):
@@ -103,8 +103,8 @@ def files_of(names):
 
 
 if __name__ == "__main__":
-    given = files_of(sys.argv[3:])
-    commands = check(sys.argv[1:3], given)
+    given = files_of(sys.argv[4:])
+    commands = check(sys.argv[1:4], given)
     if commands is None:
         sys.exit(1)
     print(f"{commands} commands of {len(given)} files: what they print is what stands there")

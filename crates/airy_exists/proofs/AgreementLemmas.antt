@@ -1,8 +1,8 @@
 -- What is answered of a plan's table of outcomes, and what it says.
-use Prim.Native.Nat.{ℕ, zero, suc, ◌<◌}
+use Prim.Native.Nat.{ℕ, ◌<◌}
 use mathlib.Core.Path.{◌≡◌, refl, sym, ap, subst, ◌∙◌}
 use mathlib.Core.Bool.{true}
-use mathlib.Core.List.{List, [], ◌∷◌, map}
+use mathlib.Core.List.{List, map}
 use native.Mathlib.Omega.{arith}
 use lib.ListN.{length, get_or}
 use Rattle.std.specs.Prelude.{Option, Some, None}
@@ -13,11 +13,12 @@ use Rattle.sparse_tensor.specs.Entries.{Entries, looked_up}
 use Rattle.sparse_tensor.specs.Grades.{AreSound}
 use Rattle.amp_plan.specs.Plans.{Planning, tensors_of, keys_of}
 use Rattle.amp_terms.specs.declared.Outcome.{Outcome}
-use Rattle.amp_terms.specs.declared.Outcome.TheVariants.{Value, Over, Blocked}
+use Rattle.amp_terms.specs.declared.Outcome.TheVariants.{Over}
 use Rattle.amp_terms.specs.Outcomes.{outcomes, has_value}
-use Rattle.amp_terms.specs.Tables.{full_table, first_without, next_rank}
+use Rattle.amp_terms.specs.Tables.{full_table, first_without}
 use Rattle.amp_terms.proofs.OutcomeLemmas.{length-all}
 use Rattle.series_law.specs.First.{HaveValues}
+use Rattle.series_law.proofs.TableRanks.{all_values}
 use Rattle.airy_exists.specs.Existence.{HasValues}
 use Rattle.airy_exists.specs.Agreement.{answer_at, IsAgreed}
 use Rattle.airy_exists.specs.declared.ends.Agreed.{Agreed}
@@ -31,18 +32,6 @@ pub long_table : (p : Planning) (table : List (Option Outcome)) → table ≡ fu
     → length table ≡ length (keys_of p)
 unfolding full_table
 long_table p table e = ap (λ t. length t) e ∙ length-map (outcomes (tensors_of p) p.bound) Some ∙ length-all p
-
-all_values : (os : List Outcome) → first_without (map Some os) ≡ None → (r : ℕ) → r < length os → has_value (get_or os r Over) ≡ true
-unfolding first_without next_rank has_value
-all_values [] e r h = absurd (omega arith)
-all_values (Value v ∷ os) e zero h = refl
-all_values (Value v ∷ os) e (suc r) h = all_values os (never_next (first_without (map Some os)) e) r (omega arith)
-  where
-    never_next : (o : Option ℕ) → next_rank o ≡ None → o ≡ None
-    never_next None e = refl
-    never_next (Some s) e = cc
-all_values (Over ∷ os) e r h = cc
-all_values (Blocked s ∷ os) e r h = cc
 
 -- each rank has a Value where the answer is Solution
 has_values : (p : Planning) (table : List (Option Outcome)) → table ≡ full_table (tensors_of p) p.bound

@@ -27,7 +27,7 @@ use Rattle.series_law.specs.Check.{Verdict, check, check_keys}
 use Rattle.series_law.specs.Check as check
 use Rattle.series_law.specs.Jobs.{HasValue}
 use Rattle.series_law.specs.SameTables.{SameTablesLaw}
-use Rattle.series_law.proofs.TableRanks.{length-outcomes}
+use Rattle.amp_terms.proofs.OutcomeLemmas.{length-outcomes}
 use Rattle.command_words.specs.Bounds.{is_bound}
 use Rattle.run_reports.specs.Ends.{EndsBy}
 use Rattle.run_reports.specs.Report.{Report, Ends, EndsOrWants, bound_refused, out_of_memory}

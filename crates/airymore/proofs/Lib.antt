@@ -3,5 +3,7 @@ pub mod BracketLemmas
 pub mod QuickLemmas
 pub mod CurveLemmas
 pub mod CurveRelationLemmas
+pub mod DocumentLemmas
+pub mod VerifyLemmas
 pub mod RunLemmas
 pub mod StatusLaw

@@ -28,7 +28,7 @@ use Rattle.amp_terms.specs.Tables.{first_without, full_table, next_rank}
 use Rattle.series_law.specs.First.{HaveValues}
 use Rattle.series_law.specs.Jobs.{JobSolutionLaw, JobUniquenessLaw}
 use Rattle.series_law.specs.Pivots.{AllPivots}
-use Rattle.series_law.proofs.TableRanks.{length-outcomes}
+use Rattle.amp_terms.proofs.OutcomeLemmas.{length-outcomes}
 use Rattle.airy_exists.specs.Agreement.{answer_at}
 use Rattle.airy_exists.specs.declared.ends.Agreed.TheVariants.{Solution, NotValue}
 use Rattle.airy_exists.specs.Existence.{EveryPivotLaw, HasValues}

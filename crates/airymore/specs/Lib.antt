@@ -3,5 +3,7 @@ pub mod Places
 pub mod Brackets
 pub mod Quick
 pub mod Curves
+pub mod Documents
+pub mod Verify
 pub mod Run
 pub mod Laws

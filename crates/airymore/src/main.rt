@@ -7,12 +7,16 @@ mod brackets;
 #[cfg(test)]
 mod curve_tests;
 mod curves;
+#[cfg(test)]
+mod document_tests;
+mod documents;
 mod laws;
 mod places;
 mod quick;
 #[cfg(test)]
 mod tests;
 mod top;
+mod verify;
 
 use airy_io::{StdSink, StdSource};
 pub use fill_crew::{Gate, OpenGate, StopAfter};

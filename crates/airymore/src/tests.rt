@@ -190,7 +190,7 @@ fn refused_words_and_texts(rt: HostRuntime) -> Result<(), Fail> {
 #[test]
 fn a_source_that_fails(rt: HostRuntime) -> Result<(), Fail> {
     let alloc = rt.alloc();
-    for line in ["brackets", "quick 2 0"] {
+    for line in ["brackets", "quick 2 0", "json - 1 0", "verify"] {
         let mut source = MemSource {
             bytes: Vec::from_slice(alloc, TWO_INDICES)?,
             at: 0,
@@ -204,7 +204,7 @@ fn a_source_that_fails(rt: HostRuntime) -> Result<(), Fail> {
     Ok(())
 }
 
-// The second line of each is cut.
+// The second line of the first two is cut, and all of the others, which write one line by one call.
 #[test]
 fn a_sink_that_fails(rt: HostRuntime) -> Result<(), Fail> {
     let alloc = rt.alloc();
@@ -218,5 +218,9 @@ fn a_sink_that_fails(rt: HostRuntime) -> Result<(), Fail> {
     assert!(rt; told.is(9, b"0 1 0 -1\n"));
     let told = run_over(&rt, alloc, "quick 2 0", TWO_INDICES, &[1])?;
     assert!(rt; told.is(9, b"0,3 [0 0 0] 1\n"));
+    for line in ["json bgw 1 0", "verify"] {
+        let told = run_over(&rt, alloc, line, b"", &[0])?;
+        assert!(rt; told.is(9, b""), "{}", line);
+    }
     Ok(())
 }

@@ -26,15 +26,15 @@ use Rattle.run_reports.specs.Report.{Report, Ends, EndsOrWants, bound_refused, o
 use Rattle.run_reports.specs.Ends.{EndsBy}
 use Rattle.run_reports.specs.Relations.{IsVerdict, closed, relations_report}
 use Rattle.run_reports.specs.Tables.{stored_report}
-use Rattle.airyrun.specs.Tables.{ArePlanned, is_bound, making_over, table_report}
+use Rattle.run_reports.specs.StructureTables.{ArePlanned, is_bound, making_over, table_report}
 use Rattle.run_reports.specs.Structures.{has_letter}
 use Rattle.run_reports.specs.Forms.{count_text, formed_stored, last_of, summary_text, summed}
 use Rattle.run_reports.specs.declared.tables.Form.TheVariants.{Summary}
 use Rattle.airyrun.specs.Bulks.{LeadsToBulk, bulk_error, bulk_report, changes_report, closed_summary}
 use Rattle.run_reports.proofs.HeadlineLemmas.{JobLaws}
-use Rattle.airyrun.proofs.HeadlineLemmas.{whole_of}
-use Rattle.run_reports.proofs.LimitLemmas.{counts_same}
-use Rattle.airyrun.proofs.ReportLemmas.{stood_report, table_never}
+use Rattle.run_reports.proofs.TableHeadline.{whole_of}
+use Rattle.amp_plan.proofs.SameLimits.{counts_same}
+use Rattle.run_reports.proofs.StructureLemmas.{stood_report, table_never}
 use Rattle.airyrun.proofs.ValuedLemmas.{same_full}
 
 -- the laws that a large structure rests on

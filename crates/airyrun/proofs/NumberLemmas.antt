@@ -46,8 +46,8 @@ use Rattle.airy_index.specs.Text.{key_text}
 use Rattle.run_reports.specs.Report.{Report, Ends, bound_refused, refusal}
 use Rattle.run_reports.specs.Ends.{EndsBy}
 use Rattle.airyrun.specs.Numbers.{IsNumber, IsQuotient, LeadsToNumber, MeetsEquations, euler_of, number_report, quotient, quotient_report, valued_report}
-use Rattle.airyrun.proofs.RunLemmas.{family_sound}
-use Rattle.airyrun.specs.Tables.{structure_of, is_bound}
+use Rattle.run_reports.proofs.TableHeadline.{family_sound}
+use Rattle.run_reports.specs.StructureTables.{structure_of, is_bound}
 use Rattle.run_reports.specs.Structures.{has_letter}
 use Rattle.airyrun.specs.Valued.{IsValued, Refuses}
 use Rattle.airyrun.proofs.ValuedLemmas.{cell_there}

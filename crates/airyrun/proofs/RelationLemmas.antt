@@ -23,7 +23,7 @@ use Rattle.named_families.specs.declared.petersson.MakeErr.TheVariants as make
 use Rattle.airy_io.specs.Causes.{Taking}
 use Rattle.run_reports.specs.Report.{Report, Ends, out_of_memory}
 use Rattle.run_reports.specs.Tables.{making_report}
-use Rattle.airyrun.specs.Tables.{making_error, structure_of}
+use Rattle.run_reports.specs.StructureTables.{making_error, structure_of}
 use Rattle.run_reports.specs.Structures.{has_letter}
 use Rattle.run_reports.specs.Relations.{IsVerdict, relations_report, closed, text_relations}
 use Rattle.airyrun.specs.Relations.{family_tensors, family_over, family_relations}

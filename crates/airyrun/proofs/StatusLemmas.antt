@@ -13,13 +13,14 @@ use Rattle.airy_relations.specs.Verdicts.{verdict}
 use Rattle.ask_seats.specs.Replies.{Reply, lines_text}
 use Rattle.run_reports.specs.Report.{Report, bound_refused}
 use Rattle.run_reports.specs.Tables.{making_report, checked_report, verdict_of, plan_report, cells_report}
-use Rattle.airyrun.specs.Tables.{is_bound, making_over, table_report}
+use Rattle.run_reports.specs.StructureTables.{is_bound, making_over, table_report}
 use Rattle.run_reports.specs.Structures.{has_letter}
 use Rattle.run_reports.specs.Relations.{relations_report, text_relations, closed}
 use Rattle.airyrun.specs.Relations.{family_tensors, family_over, family_relations}
 use Rattle.ask_seats.specs.Sessions.{Session}
 use Rattle.command_words.specs.declared.line.Line.{Line}
-use Rattle.airyrun.specs.Sessions.{Wants, at_first, at_grow, session_report, wanting_behind}
+use Rattle.session_law.specs.Sessions.{session_report}
+use Rattle.airyrun.specs.Sessions.{Wants, at_first, at_grow, wanting_behind}
 use Rattle.run_reports.specs.Forms.{summed}
 use Rattle.airyrun.specs.Numbers.{first_report, valued_report, quotient, quotient_report, euler_of, number_report, parts_report, volume_parts, volume_lacks, volume_report, terms_refused}
 use Rattle.airyrun.specs.Bulks.{changes_report, bulk_report}
@@ -28,43 +29,9 @@ use Rattle.airy_math.specs.Rational.{ℚ}
 use Rattle.airy_math.specs.declared.Family.{Family}
 use Rattle.correlators.specs.Volumes.{Part, counted}
 use Rattle.bulk_tensors.specs.Bulk.{bulk, bulk_refusal}
-use Rattle.run_reports.proofs.StatusLemmas.{IsPlain, plain_closed, plain_relations, plain_making, plain_bound, plain_plan}
-
--- the report of each table
-pub plain_table : (s : Structure) (X : ℕ) → IsPlain (table_report s X)
-unfolding table_report making_report cells_report plan_report checked_report
-plain_table s X = by (is_bound X) (making_over s X) (limit T X) (verdict_of T X)
-  where
-    T : Tensors
-    T = planned_tensors s X
-
-    cells : check.Verdict → Report
-    cells v = checked_report (has_letter s) T.shape (planned T X) (full_table T X) v
-
-    by : (b : Bool) (o : Option ℕ) (l : Limit) (v : check.Verdict) → IsPlain (cond b (making_report o (plan_report X l (cells v))) (bound_refused X))
-    by false o l v = record { is = inr (omega arith, omega arith) }
-    by true (Some k) l v = record { is = inr (omega arith, omega arith) }
-    by true None Within check.Solution = record { is = inl refl }
-    by true None Within (check.NotValue r) = record { is = inr (omega arith, omega arith) }
-    by true None Within (check.Overflow key i) = record { is = inr (omega arith, omega arith) }
-    by true None Within (check.Orders key i a j b) = record { is = inr (omega arith, omega arith) }
-    by true None PassesBound v = record { is = inr (omega arith, omega arith) }
-    by true None (PassesCells level) v = record { is = inr (omega arith, omega arith) }
-    by true None (PassesNeeds key) v = record { is = inr (omega arith, omega arith) }
+use Rattle.run_reports.proofs.StatusLemmas.{IsPlain, plain_table, plain_closed, plain_relations, plain_making, plain_bound, plain_plan}
 
 -- that of each session, whatever its replies
-pub plain_session : (s : Structure) (X Y : ℕ) (replies : List Reply) → IsPlain (session_report s X Y replies)
-unfolding session_report making_report plan_report
-plain_session s X Y replies = by (is_bound Y) (making_over s Y) (limit (planned_tensors s Y) X)
-  where
-    by : (b : Bool) (o : Option ℕ) (l : Limit) → IsPlain (cond b (making_report o (plan_report X l (record { status = 0; bytes = lines_text replies }))) (bound_refused Y))
-    by false o l = record { is = inr (omega arith, omega arith) }
-    by true (Some k) l = record { is = inr (omega arith, omega arith) }
-    by true None Within = record { is = inl refl }
-    by true None PassesBound = record { is = inr (omega arith, omega arith) }
-    by true None (PassesCells level) = record { is = inr (omega arith, omega arith) }
-    by true None (PassesNeeds key) = record { is = inr (omega arith, omega arith) }
-
 -- a session that memory is wanting for
 behind_status : (replies : List Reply) → (wanting_behind replies).status ≡ 10
 unfolding wanting_behind

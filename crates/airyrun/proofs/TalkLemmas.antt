@@ -34,11 +34,12 @@ use Rattle.run_reports.specs.Structures.{AreClosed, has_letter, text_structure}
 use Rattle.airyrun.specs.Run.{LeadsToClosedSession}
 use Rattle.run_reports.specs.Ends.{EndsBy}
 use Rattle.run_reports.specs.Tables.{plan_report, cause_report, making_report}
-use Rattle.airyrun.specs.Tables.{is_bound, making_over, making_error, ArePlanned}
-use Rattle.airyrun.specs.Sessions.{EndsReplies, Wants, at_first, at_grow, answered, wanting_behind, stored_session, session_of, session_report, LeadsToSession}
+use Rattle.run_reports.specs.StructureTables.{is_bound, making_over, making_error, ArePlanned}
+use Rattle.session_law.specs.Sessions.{answered, stored_session, session_of, session_report}
+use Rattle.airyrun.specs.Sessions.{EndsReplies, Wants, at_first, at_grow, wanting_behind, LeadsToSession}
 use Rattle.run_reports.proofs.ReportLemmas.{told_cause}
 use Rattle.run_reports.proofs.StoredLemmas.{same_limit}
-use Rattle.airyrun.proofs.SessionLemmas.{bounded, same_replies, shown_law}
+use Rattle.session_law.proofs.SessionLemmas.{SessionLaws, bounded, same_replies, session-bound, session-stood, shown_law}
 use Rattle.run_reports.proofs.TextLemmas.{own_of}
 
 module _ (s : Session) (X : ℕ) (lines : List Line) (before now : Taking) where
@@ -147,24 +148,9 @@ plan-ends t X crew lines p before now result made within h =
 
 -- ---- of a structure
 
-session-bound : (s : Structure) (X Y : ℕ) (replies : List Reply) → is_bound Y ≡ false → session_report s X Y replies ≡ bound_refused Y
-unfolding session_report
-session-bound s X Y replies e = rw e refl
-
-session-stood : (s : Structure) (t : Entries) (X Y : ℕ) (replies : List Reply) → PlanLaw → BelowDimLaw → is_bound Y ≡ true → making_over s Y ≡ None → ArePlanned t s Y → session_report s X Y replies ≡ stored_session t X replies
-unfolding session_report making_report stored_session
-session-stood s t X Y replies once below bounded made stored = rw (bounded, made) (ap (λ l. plan_report X l (answered replies)) (sym (same_limit t (planned_tensors s Y) X once below stored.entries)))
-
 -- the bound that is reached is one
 pub reached_bound : (X top : ℕ) (lines : List Line) → IsReached X lines (Ok top) → is_bound (reach X lines) ≡ true
 reached_bound X top lines h = subst (λ n. is_bound n ≡ true) h.0 (bounded top (omega (arith, h.1, h.2)) h.3)
-
--- what a session's replies rest on: laws, and a structure that is sound
-pub record SessionLaws : Type 0 where
-  pub shown : JobSessionLaw
-  pub once : PlanLaw
-  pub below : BelowDimLaw
-  pub tables : SameTablesLaw
 
 module _ (s : Structure) (X crew : ℕ) (lines : List Line) (before now : Taking) (result : ℕ) where
   abbrev Y : ℕ
@@ -204,25 +190,6 @@ module _ (s : Structure) (X crew : ℕ) (lines : List Line) (before now : Taking
     )
 
 -- ---- of a text
-
-same_entries : (T : Tensors) → SameEntries T T
-same_entries T = record { dim = refl; shape = refl; A = λ i j k a b c. refl; B = λ i j k a b c. refl; C = λ i j k a b c. refl; D = λ i a. refl }
-
-pub text-planned : (t : Entries) (X : ℕ) → ArePlanned t (text_structure t) X
-unfolding text_structure planned_tensors has_letter
-text-planned t X = by t.letter refl
-  where
-    by : (b : Bool) → t.letter ≡ b → ArePlanned t (cond b (Lettered (looked_up t)) (Text (looked_up t))) X
-    by true e = record { entries = same_entries (looked_up t); letter = e }
-    by false e = record { entries = same_entries (looked_up t); letter = e }
-
-pub text-made : (t : Entries) (X : ℕ) → making_over (text_structure t) X ≡ None
-unfolding text_structure making_over
-text-made t X = by t.letter
-  where
-    by : (b : Bool) → making_over (cond b (Lettered (looked_up t)) (Text (looked_up t))) X ≡ None
-    by true = refl
-    by false = refl
 
 module _ (t : Entries) (X crew : ℕ) (lines : List Line) (before now : Taking) (result : ℕ) (own : OwnTensorsLaw) where
   abbrev Z : ℕ

@@ -12,14 +12,14 @@ use Rattle.airy_io.specs.Causes.{Taking}
 use Rattle.run_reports.specs.Report.{Report, Ends, EndsOrWants, out_of_memory}
 use Rattle.run_reports.specs.Relations.{relations_report, of_relations, closed}
 use Rattle.run_reports.specs.Tables.{stored_report}
-use Rattle.airyrun.specs.Tables.{is_bound, table_report}
+use Rattle.run_reports.specs.StructureTables.{is_bound, table_report}
 use Rattle.run_reports.specs.Structures.{text_structure, AreClosed}
 use Rattle.airyrun.specs.Run.{LeadsToTable, LeadsToProbe, LeadsToClosedTable}
 use Rattle.run_reports.specs.Ends.{EndsBy}
-use Rattle.airyrun.proofs.ReportLemmas.{text_stored, text_never}
+use Rattle.run_reports.proofs.StructureLemmas.{text_stored, text_never}
 use Rattle.airy_exists.specs.Existence.{NoOrdersLaw}
 use Rattle.run_reports.proofs.HeadlineLemmas.{JobLaws}
-use Rattle.airyrun.proofs.HeadlineLemmas.{headline_of, unsolvable_of}
+use Rattle.run_reports.proofs.TableHeadline.{headline_of, unsolvable_of}
 use Rattle.run_reports.proofs.TextLemmas.{text_sound, own_of}
 
 -- the laws on the table of a text

@@ -20,13 +20,13 @@ use Rattle.named_families.specs.Families.{Names}
 use Rattle.named_families.specs.declared.petersson.MakeErr.{MakeErr}
 use Rattle.named_families.specs.declared.petersson.MakeErr.TheVariants as make
 use Rattle.series_law.specs.SameTables.{SameTablesLaw}
-use Rattle.series_law.proofs.TableRanks.{length-outcomes}
+use Rattle.amp_terms.proofs.OutcomeLemmas.{length-outcomes}
 use Rattle.sparse_tensor.specs.Entries.{Entries, looked_up}
 use Rattle.airy_io.specs.Causes.{Taking}
 use Rattle.run_reports.specs.Report.{Report, Ends, bound_refused, out_of_memory}
 use Rattle.run_reports.specs.Ends.{EndsBy}
 use Rattle.run_reports.specs.Tables.{making_report, over_at, plan_report, cause_report}
-use Rattle.airyrun.specs.Tables.{ArePlanned, is_bound, making_over, making_error}
+use Rattle.run_reports.specs.StructureTables.{ArePlanned, is_bound, making_over, making_error}
 use Rattle.airyrun.specs.Numbers.{first_report, valued_report}
 use Rattle.airyrun.specs.Valued.{IsFilled, IsStored, IsValued, Refuses, plan_valued, stored_valued}
 use Rattle.run_reports.proofs.ReportLemmas.{not_whole}

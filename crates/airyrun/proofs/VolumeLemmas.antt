@@ -27,7 +27,7 @@ use Rattle.run_reports.specs.Report.{Report, Ends, bound_refused, out_of_memory}
 use Rattle.run_reports.specs.Report as report
 use Rattle.run_reports.specs.Ends.{EndsBy, EndsByOrWants}
 use Rattle.airyrun.specs.Numbers.{IsDivision, IsQuotients, IsVolume, LeadsToVolume, joint, part_text, parts_report, parts_text, table_lacks, takes_volume, terms_refused, valued_report, volume_lacks, volume_parts, volume_report, volume_text}
-use Rattle.airyrun.specs.Tables.{is_bound}
+use Rattle.run_reports.specs.StructureTables.{is_bound}
 use Rattle.run_reports.specs.Structures.{has_letter}
 use Rattle.airyrun.specs.Valued.{IsValued, Refuses}
 use Rattle.airyrun.proofs.ValuedLemmas.{cell_there, same_full}

@@ -8,7 +8,7 @@ use Rattle.bulk_tensors.specs.declared.full_tensors.BulkErr.{BulkErr}
 use Rattle.bulk_tensors.specs.declared.full_tensors.BulkErr.TheVariants as error
 use Rattle.run_reports.specs.Report.{Report, refusal, bound_refused, out_of_memory}
 use Rattle.run_reports.specs.Relations.{relations_report}
-use Rattle.airyrun.specs.Tables.{is_bound, table_report}
+use Rattle.run_reports.specs.StructureTables.{is_bound, table_report}
 use Rattle.run_reports.specs.Structures.{whole_table}
 use Rattle.sparse_tensor.specs.Entries.{Entries, looked_up}
 use Rattle.run_reports.specs.Forms.{summed, formed_stored}

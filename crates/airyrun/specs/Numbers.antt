@@ -27,7 +27,7 @@ use Rattle.correlators.specs.declared.refusals.CorrErr.{CorrErr}
 use Rattle.correlators.specs.declared.refusals.CorrErr.TheVariants as refused
 use Rattle.run_reports.specs.Report.{Report, refusal, bound_refused, out_of_memory}
 use Rattle.run_reports.specs.Tables.{making_report, plan_report, over_at}
-use Rattle.airyrun.specs.Tables.{is_bound, making_over}
+use Rattle.run_reports.specs.StructureTables.{is_bound, making_over}
 
 -- ---- the table that a number is read off
 

@@ -9,7 +9,7 @@ use Rattle.amp_terms.specs.Tables.{full_table, first_without}
 use Rattle.sparse_tensor.specs.Entries.{Entries, looked_up}
 use Rattle.run_reports.specs.Report.{Report, out_of_memory}
 use Rattle.run_reports.specs.Tables.{plan_report}
-use Rattle.airyrun.specs.Tables.{ArePlanned}
+use Rattle.run_reports.specs.StructureTables.{ArePlanned}
 use Rattle.airyrun.specs.Numbers.{first_report, valued_report}
 
 -- what comes next where each key of a plan has a Value

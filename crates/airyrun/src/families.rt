@@ -3,11 +3,11 @@ ghost use Rattle.airy_math.specs.Tensors.{SameEntries};
 ghost use Rattle.sparse_tensor.specs.Entries.{looked_up};
 ghost use Rattle.named_families.specs.Families.{Names};
 ghost use Rattle.command_words.specs.Asked.{IsPlaces};
-ghost use Rattle.run_reports.specs.Report.{Ends, EndsOrWants};
+ghost use Rattle.run_reports.specs.Report.{EndsOrWants};
 ghost use Rattle.airyrun.specs.Relations.{family_over, family_tensors};
 ghost use Rattle.run_reports.specs.Ends.{EndsBy};
 ghost use Rattle.airyrun.specs.Run.{LeadsToFamilyRelations};
-ghost use Rattle.airyrun.specs.Tables.{ArePlanned, EndsTable, is_bound, making_error, making_over, structure_of, table_report};
+ghost use Rattle.run_reports.specs.StructureTables.{EndsTable, is_bound, structure_of, table_report};
 ghost use Rattle.run_reports.specs.Structures.{has_letter};
 
 use airy_io::Sink;
@@ -15,10 +15,8 @@ use airy_math::{Family, below_dim, planned_once};
 use airy_relations::same_verdict;
 use command_words::is_bound;
 use fill_crew::Gate;
-use named_families::{
-    MakeErr, bgw, bgw_closes, bgw_cut, wk, wk_closes, wk_cut, wp, wp_closes, wp_cut,
-};
-use run_reports::{Form, print_stored, refuse_bound, refuse_memory, refuse_number, say_relations};
+use named_families::{MakeErr, bgw_closes, bgw_cut, wk_closes, wk_cut, wp_closes, wp_cut};
+use run_reports::{Form, print_stored, refuse_bound, refuse_making, say_relations, tensors_of};
 use series_law::same_tables;
 use sparse_tensor::Tensors;
 use std::alloc::Global;
@@ -69,22 +67,6 @@ fn made_table<R: Threads + Sync, W: Sink, G: Gate + Sync>(
     }
 }
 
-/// The tensors of a named structure that its table up to the bound needs.
-#[tactic(auto, unfolding(crate::specs::Tables::making_over, crate::specs::Tables::structure_of, run_reports::specs::Structures::has_letter, airy_math::specs::Jobs::planned_tensors, named_families::specs::Families::Names))]
-pub(crate) fn tensors_of(alloc: Global, family: Family, bound: u8) -> Result<Tensors, MakeErr>
-    requires some { 0 < bound }
-    requires most { bound ≤ 24 }
-    ensures planned { IfOk result (λ t. ArePlanned t (structure_of family) bound) }
-    ensures made { OnOk result (making_over (structure_of family) bound ≡ None) }
-    ensures over { IfErr result (λ e. Names e (making_over (structure_of family) bound)) }
-{
-    match family {
-        Family::Wk => wk(alloc, bound).map_err(|_| MakeErr::NoMemory),
-        Family::Bgw => bgw(alloc, bound).map_err(|_| MakeErr::NoMemory),
-        Family::Wp => wp(alloc, bound),
-    }
-}
-
 /// Does `relations N KIND` for a named structure.
 pub(crate) fn relations_of_family<W: Sink>(
     alloc: Global,
@@ -108,7 +90,7 @@ pub(crate) fn relations_of_family<W: Sink>(
 
 /// The tensors of a named structure with all indices that the relations in the places below N read: up to 2N, and for wp with the
 /// exponents up to 2N + 1.
-#[tactic(auto, unfolding(crate::specs::Relations::family_tensors, crate::specs::Relations::family_over, crate::specs::Tables::structure_of, run_reports::specs::Structures::has_letter, named_families::specs::Families::Names))]
+#[tactic(auto, unfolding(crate::specs::Relations::family_tensors, crate::specs::Relations::family_over, run_reports::specs::StructureTables::structure_of, run_reports::specs::Structures::has_letter, named_families::specs::Families::Names))]
 fn tensors_below(alloc: Global, places: u8, family: Family) -> Result<Tensors, MakeErr>
     requires { IsPlaces places }
     ensures entries { IfOk result (λ t. SameEntries (looked_up t) (family_tensors family places)) }
@@ -121,16 +103,5 @@ fn tensors_below(alloc: Global, places: u8, family: Family) -> Result<Tensors, M
         Family::Wk => wk_cut(alloc, dim).map_err(|_| MakeErr::NoMemory),
         Family::Bgw => bgw_cut(alloc, dim).map_err(|_| MakeErr::NoMemory),
         Family::Wp => wp_cut(alloc, dim, dim),
-    }
-}
-
-/// Says why the tensors of a named structure aren't made.
-#[tactic(auto, unfolding(crate::specs::Tables::making_error, run_reports::specs::Tables::making_report))]
-pub(crate) fn refuse_making<W: Sink>(out: &mut W, refusal: MakeErr) -> u8
-    ensures { Ends (making_error refusal) (W.state out.old) (W.state out.new) result }
-{
-    match refusal {
-        MakeErr::Over { k } => refuse_number(out, 6, b"over in c ", k as u32),
-        MakeErr::NoMemory => refuse_memory(out),
     }
 }

@@ -35,7 +35,8 @@ mod word_tests;
 
 use airy_io::{StdSink, StdSource};
 pub use fill_crew::{Gate, OpenGate, StopAfter};
-pub use laws::{meant_is_one, same_replies, session_shown, table_steps};
+pub use laws::{meant_is_one, table_steps};
+pub use session_law::{same_replies, session_shown};
 use std::process::ExitCode;
 use std::{env, io};
 pub use top::{run, serve};

@@ -5,7 +5,7 @@ ghost use Rattle.run_reports.specs.Report.{Ends, Report};
 ghost use Rattle.run_reports.specs.Ends.{EndsBy};
 ghost use Rattle.airyrun.specs.Numbers.{IsQuotient, LeadsToNumber, euler_of};
 ghost use Rattle.airyrun.specs.Valued.{IsValued};
-ghost use Rattle.airyrun.specs.Tables.{is_bound, structure_of};
+ghost use Rattle.run_reports.specs.StructureTables.{is_bound, structure_of};
 
 use crate::valued::valued_table;
 use airy_index::Key;

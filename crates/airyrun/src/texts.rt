@@ -1,5 +1,5 @@
 ghost use Rattle.std.specs.Prelude.{◌≡◌, ◌<◌, ◌≤◌, ◌+◌, IsTrue, false};
-ghost use Rattle.airyrun.specs.Tables.{is_bound};
+ghost use Rattle.run_reports.specs.StructureTables.{is_bound};
 ghost use Rattle.airyrun.specs.Run.{LeadsToClosedSession, LeadsToClosedTable, LeadsToProbe, LeadsToTextRelations};
 ghost use Rattle.command_words.specs.Bounds.{IsScript, reach};
 ghost use Rattle.command_words.specs.Lines.{FinishesOnce, Rises};

@@ -2,14 +2,13 @@ ghost use Rattle.std.specs.Prelude.{◌≡◌, ◌<◌, ◌≤◌, IsTrue, IfErr
 ghost use Rattle.run_reports.specs.Ends.{EndsBy};
 ghost use Rattle.airyrun.specs.Numbers.{valued_report};
 ghost use Rattle.airyrun.specs.Valued.{IsFilled, IsStored, IsValued, Refuses, plan_valued, stored_valued};
-ghost use Rattle.airyrun.specs.Tables.{is_bound, structure_of};
+ghost use Rattle.run_reports.specs.StructureTables.{is_bound, structure_of};
 
-use crate::families::{refuse_making, tensors_of};
 use airy_io::Sink;
 use airy_math::{Family, below_dim, planned_once};
 use amp_plan::Plan;
 use amp_terms::{Table, one_thread};
-use run_reports::{refuse_key, refuse_memory, refuse_plan};
+use run_reports::{refuse_key, refuse_making, refuse_memory, refuse_plan, tensors_of};
 use series_law::same_tables;
 use sparse_tensor::Tensors;
 use std::alloc::Global;

@@ -4,6 +4,7 @@ pub mod WindowLemmas
 pub mod LevelLemmas
 pub mod SearchLemmas
 pub mod LimitLemmas
+pub mod SameLimits
 pub mod PlanLemmas
 pub mod PlaceLemmas
 pub mod RowLemmas

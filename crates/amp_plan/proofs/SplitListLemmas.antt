@@ -116,7 +116,7 @@ listed-one c s t n x old new e i h =
 
 -- ---- what can be listed
 
-pub listable-small : (c : ℤ) (t : ℕ) (x : Chosen) → unsigned_abs c ≤ 99 → CanBeListed c [] t x → unsigned_abs x.part.excess ≤ 2 ^ 29
+pub listable-small : (c : ℤ) (t : ℕ) (x : Chosen) → unsigned_abs c ≤ 99 → CanBeListed c [] t x → unsigned_abs x.part.excess < 2 ^ 14
 unfolding taken_so
 listable-small c t x law k =
     let n = are-numbers c k.split x k.is in

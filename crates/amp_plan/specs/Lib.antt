@@ -12,3 +12,4 @@ pub mod Measures
 pub mod Shares
 pub mod Rests
 pub mod SplitLists
+pub mod SameLimits

@@ -21,7 +21,7 @@ use key_index::KeyIndex;
 pub(crate) struct Listed {
     code: u64,
     ways: u32,
-    excess: i32,
+    excess: i16,
     places: u8,
 }
 
@@ -29,14 +29,14 @@ impl Listed {
     /// What is listed of a part that was chosen.
     #[tactic(auto, unfolding(crate::specs::SplitLists::listed_of))]
     fn of(chosen: &Chosen) -> Listed
-        requires excess { unsigned_abs chosen.now.part.excess ≤ 2 ^ 29 }
+        requires excess { unsigned_abs chosen.now.part.excess < 2 ^ 14 }
         requires ways { chosen.now.ways ≤ 2 ^ 25 }
         ensures { result ≡ listed_of chosen.now }
     {
         Listed {
             code: chosen.part.code,
             ways: chosen.ways as u32,
-            excess: chosen.part.excess as i32,
+            excess: chosen.part.excess as i16,
             places: chosen.part.places,
         }
     }

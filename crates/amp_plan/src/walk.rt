@@ -131,10 +131,12 @@ fn walk_c<V: TermVisitor>(ranking: &Ranking, genus: u8, pivot: u8, rest: Rest, v
     ensures { Takes V.allows V.state V.step (c_part ranking.now pivot genus rest.list.items) visitor.old visitor.new }
 {
     match splits_to_list(ranking, pivot, &rest) {
-        1..=64 => walk_in_room::<64, V>(ranking, genus, pivot, rest, visitor),
-        65..=128 => walk_in_room::<128, V>(ranking, genus, pivot, rest, visitor),
-        129..=256 => walk_in_room::<256, V>(ranking, genus, pivot, rest, visitor),
-        257..=512 => walk_in_room::<512, V>(ranking, genus, pivot, rest, visitor),
+        1..=76 => walk_in_room::<76, V>(ranking, genus, pivot, rest, visitor),
+        77..=128 => walk_in_room::<128, V>(ranking, genus, pivot, rest, visitor),
+        129..=192 => walk_in_room::<192, V>(ranking, genus, pivot, rest, visitor),
+        193..=256 => walk_in_room::<256, V>(ranking, genus, pivot, rest, visitor),
+        257..=384 => walk_in_room::<384, V>(ranking, genus, pivot, rest, visitor),
+        385..=512 => walk_in_room::<512, V>(ranking, genus, pivot, rest, visitor),
         513..=1024 => walk_in_room::<1024, V>(ranking, genus, pivot, rest, visitor),
         1025..=2048 => walk_in_room::<2048, V>(ranking, genus, pivot, rest, visitor),
         _ => walk_in_room::<0, V>(ranking, genus, pivot, rest, visitor),

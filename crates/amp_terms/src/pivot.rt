@@ -6,8 +6,8 @@ ghost use Rattle.airy_math.specs.RationalLaws.{0ℚ};
 ghost use Rattle.airy_math.specs.Terms.{terms};
 ghost use Rattle.amp_plan.specs.Plans.{tensors_of, keys_of, rank_at};
 ghost use Rattle.amp_terms.specs.declared.Outcome.{Outcome};
-ghost use Rattle.amp_terms.specs.Outcomes.{outcome_from, ranks_named, value_or_zero};
-ghost use Rattle.amp_terms.specs.Pivots.{noted as is_noted, pivot_outcome};
+ghost use Rattle.amp_terms.specs.Outcomes.{outcome_from, ranks_named, smaller, value_or_zero};
+ghost use Rattle.amp_terms.specs.Pivots.{noted, pivot_outcome};
 ghost use Rattle.amp_plan.specs.Ranked.{AreAllowed, NameAllowed, all_ranked};
 
 use crate::Outcome;
@@ -99,24 +99,42 @@ impl<'a, S: Seen> TermVisitor for PivotSum<'a, S> {
     }
 
     fn once(&mut self, times: u8, v: Frac, rank: u32) {
-        let outcome = self.seen.at(rank);
-        self.blocked = noted(self.blocked, rank, &outcome);
-        self.sum.add_once(times, v, number_of(&outcome));
+        let number = self.number(rank);
+        self.sum.add_once(times, v, number);
     }
 
     fn joined(&mut self, weight: Option<Frac>, rank: u32) {
-        let outcome = self.seen.at(rank);
-        self.blocked = noted(self.blocked, rank, &outcome);
-        self.sum.add_joined(weight, number_of(&outcome));
+        let number = self.number(rank);
+        self.sum.add_joined(weight, number);
     }
 
     fn twice(&mut self, weight: Option<Frac>, ways: u64, left: u32, right: u32) {
-        let first = self.seen.at(left);
-        self.blocked = noted(self.blocked, left, &first);
-        let second = self.seen.at(right);
-        self.blocked = noted(self.blocked, right, &second);
-        self.sum
-            .add_twice(weight, ways, number_of(&first), number_of(&second));
+        let first = self.number(left);
+        let second = self.number(right);
+        self.sum.add_twice(weight, ways, first, second);
+    }
+}
+
+impl<S: Seen> PivotSum<'_, S> {
+    /// The Value at a rank, and 0 where it has none: then the rank is noted.
+    #[inline(always)]
+    fn number(&mut self, rank: u32) -> Frac
+        requires { S.has self.old.seen.now rank }
+        ensures number { result ≡ value_or_zero (S.shown self.old.seen.now rank) }
+        ensures noted { self.new.blocked ≡ noted self.old.blocked rank (S.shown self.old.seen.now rank) }
+        ensures sum { self.new.sum ≡ self.old.sum }
+        ensures same_reference { self.new.seen.ghost_name ≡ self.old.seen.ghost_name }
+        ensures ranks { (r : ℕ) → S.has self.new.seen.now r ↔ S.has self.old.seen.now r }
+        ensures same { S.shown self.new.seen.now ≡ S.shown self.old.seen.now }
+        ensures base { S.made_over self.new.seen.now ≡ S.made_over self.old.seen.now }
+    {
+        match self.seen.at(rank) {
+            Outcome::Value(v) => v,
+            _ => {
+                self.blocked = less(self.blocked, rank);
+                Frac::whole(0)
+            }
+        }
     }
 }
 
@@ -134,24 +152,14 @@ impl<S> PivotSum<'_, S> {
     }
 }
 
-/// The least rank so far without a Value, after one more.
-#[tactic(auto, unfolding(crate::specs::Pivots::noted, crate::specs::Outcomes::has_value, crate::specs::Outcomes::smaller))]
-fn noted(blocked: Option<u32>, rank: u32, outcome: &Outcome) -> Option<u32>
-    ensures { result ≡ is_noted blocked rank outcome.now }
+/// The less of a rank and one that may be missing. It is no part of the common path.
+#[inline(never)]
+#[tactic(auto, unfolding(crate::specs::Outcomes::smaller))]
+fn less(least: Option<u32>, rank: u32) -> Option<u32>
+    ensures { result ≡ smaller rank least }
 {
-    match (outcome, blocked) {
-        (Outcome::Value(_), _) => blocked,
-        (_, Some(least)) => Some(least.min(rank)),
-        (_, None) => Some(rank),
-    }
-}
-
-/// The Value of an outcome, and 0 where it has none.
-fn number_of(outcome: &Outcome) -> Frac
-    ensures { result ≡ value_or_zero outcome.now }
-{
-    match outcome {
-        Outcome::Value(v) => *v,
-        _ => Frac::whole(0),
+    match least {
+        Some(least) => Some(least.min(rank)),
+        None => Some(rank),
     }
 }

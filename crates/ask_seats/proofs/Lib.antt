@@ -4,3 +4,4 @@ pub mod SpeakLemmas
 pub mod TalkLemmas
 pub mod SessionLemmas
 pub mod SeatLemmas
+pub mod FrontLemmas

@@ -1,5 +1,5 @@
 -- The parts of a session.
-use Rattle.std.proofs.Common.{◌≡◌, ◌⊎◌, inl, inr, ℕ, zero, suc, ◌<◌, ◌≤◌, ◌+◌, Bool, true, false, List, [], ◌∷◌, ◌++◌, take, drop, length, get_or, Option, Some, None, arith, refl, sym, ap, ◌∙◌, subst, append-nil, append_assoc}
+use Rattle.std.proofs.Common.{◌≡◌, ◌⊎◌, inl, inr, ℕ, zero, suc, ◌<◌, ◌≤◌, ◌+◌, Bool, true, false, List, [], ◌∷◌, ◌++◌, take, drop, length, get_or, Option, Some, None, arith, refl, sym, ap, ap₂, ◌∙◌, subst, append-nil, append_assoc}
 use Rattle.std.proofs.lemmas.List.{take-append-drop, drop_more}
 use Rattle.std.proofs.KnownBytes.{Appends-trans}
 use Rattle.std.specs.Prelude.{Result, Ok, Err, OnOk, OnErr}
@@ -18,12 +18,12 @@ use Rattle.amp_plan.specs.Plans.{Planning, tensors_of, keys_of, key_at}
 use Rattle.amp_terms.specs.declared.Outcome.{Outcome}
 use Rattle.cell_words.specs.Layout.{cells}
 use Rattle.ask_seats.specs.Replies.{Reply, line_text, lines_text}
-use Rattle.ask_seats.specs.Sessions.{Session, Stage, Replied, IsAdmitted, Admitted, IsOrRestsOn, start, behind, finish, growth, grown, bound_after, bound_behind}
+use Rattle.ask_seats.specs.Sessions.{Session, Stage, Replied, IsAdmitted, Admitted, IsOrRestsOn, start, behind, finish, growth, grown, bound_after, bound_behind, finished_behind}
 use Rattle.ask_seats.specs.Asks.{session_of, AreAsks, FinishesOnce, Rises, ends_finished, Spoken, CutShort, StopsAtGrow}
 use Rattle.ask_seats.specs.Talks.{IsPart, replies_due, IsGood, Stands, stage_after, Wrote, Broke, Speaks, FallsSilent, Carried, Paused, GoesOn, up_to}
 use Rattle.command_words.specs.declared.line.Line.{Line}
 use Rattle.command_words.specs.declared.line.Line.TheVariants.{Ask, Finish, Grow}
-use Rattle.ask_seats.proofs.ReplyLemmas.{behind-bound, grows-up, rises-lower}
+use Rattle.ask_seats.proofs.ReplyLemmas.{behind-bound, behind-finished, grows-up, rises-lower}
 use Rattle.ask_seats.proofs.SpeakLemmas.{replied-append, after-append, text-append, complete, good-start, good-finish, good-grown, good-along, lower}
 
 -- ---- lines of a part
@@ -264,6 +264,18 @@ bound-stage T P st (Ask key ∷ lines) (reply ∷ replies) r = bound-stage T P (
 bound-stage T P st (Grow X ∷ lines) [] r = absurd r
 bound-stage T P st (Grow X ∷ lines) (reply ∷ replies) r = bound-stage T P (grown T X st) lines replies r.1
 
+pub finished-stage : (T : Tensors) (P : Stage → Key → Reply → Type 0) (st : Stage) (lines : List Line) (replies : List Reply) → Replied T P st lines replies
+    → (stage_after T st lines replies).finished ≡ finished_behind T st.bound st.finished lines
+unfolding Replied stage_after finished_behind finish grown
+finished-stage T P st [] [] r = refl
+finished-stage T P st [] (reply ∷ replies) r = absurd r
+finished-stage T P st (Finish ∷ lines) replies r = finished-stage T P (finish st) lines replies r
+finished-stage T P st (Ask key ∷ lines) [] r = absurd r
+finished-stage T P st (Ask key ∷ lines) (reply ∷ replies) r =
+    finished-stage T P (behind st key reply) lines replies r.1 ∙ ap₂ (λ X f. finished_behind T X f lines) (behind-bound st key reply) (behind-finished st key reply)
+finished-stage T P st (Grow X ∷ lines) [] r = absurd r
+finished-stage T P st (Grow X ∷ lines) (reply ∷ replies) r = finished-stage T P (grown T X st) lines replies r.1
+
 -- ---- the two halves of a part
 
 pub wrote-map : (p : Planning) (crew : ℕ) (f : Option ℕ) (Knew Knows : ℕ → Type 0) (st : Stage) (lines : List Line) (old new : Option (List ℕ)) → ((r : ℕ) → r < cells p → Knew r → Knows r) → Wrote p crew f Knew st lines old new → Wrote p crew f Knows st lines old new
@@ -375,6 +387,12 @@ unfolding tensors_of
 bound-last q p crew f t lines old new h =
     sym h.wrote.stands.bound ∙ bound-stage (tensors_of p) (IsAdmitted (session_of p crew)) (start q.bound) lines h.wrote.replies h.wrote.admitted
     ∙ ap (λ e. bound_behind (Rattle.sparse_tensor.specs.Entries.looked_up e) q.bound lines) h.tensors
+
+pub finished-last : (q p : Planning) (crew : ℕ) (f : Option ℕ) (t : List (Option Outcome)) (lines : List Line) (old new : Option (List ℕ)) → Paused q p crew f t lines old new → f ≡ finished_behind (tensors_of q) q.bound None lines
+unfolding tensors_of
+finished-last q p crew f t lines old new h =
+    sym h.wrote.finish ∙ finished-stage (tensors_of p) (IsAdmitted (session_of p crew)) (start q.bound) lines h.wrote.replies h.wrote.admitted
+    ∙ ap (λ e. finished_behind (Rattle.sparse_tensor.specs.Entries.looked_up e) q.bound None lines) h.tensors
 
 pub stops-at : (q p : Planning) (crew : ℕ) (f : Option ℕ) (t : List (Option Outcome)) (done : List Line) (Y : ℕ) (rest lines : List Line) (old new : Taking) (n : ℕ) → Paused q p crew f t done old.taken new.taken → lines ≡ done ++ (Grow Y ∷ rest) → new.faults ≡ old.faults → n ≡ replies_due done
     → StopsAtGrow (session_of q crew) q.bound lines old new n

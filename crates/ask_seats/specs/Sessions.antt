@@ -110,6 +110,13 @@ bound_behind T X (Ask key ∷ lines) = bound_behind T X lines
 bound_behind T X (Finish ∷ lines) = bound_behind T X lines
 bound_behind T X (Grow Y ∷ lines) = bound_behind T (bound_after (limit T Y) X Y) lines
 
+-- and the bound at the last `finish` among them, else the one before
+unfoldable pub finished_behind : Tensors → ℕ → Option ℕ → List Line → Option ℕ
+finished_behind T X finished [] = finished
+finished_behind T X finished (Ask key ∷ lines) = finished_behind T X finished lines
+finished_behind T X finished (Finish ∷ lines) = finished_behind T X (Some X) lines
+finished_behind T X finished (Grow Y ∷ lines) = finished_behind T (bound_after (limit T Y) X Y) finished lines
+
 -- ---- an ask
 
 -- the one key is the other, or rests on it

@@ -10,6 +10,7 @@ ghost use Rattle.cell_words.specs.Seats.{plan_of, seats_of, carried_of, EachSeat
 ghost use Rattle.ask_seats.specs.Counts.{Knows};
 ghost use Rattle.ask_seats.specs.Replies.{line_text};
 ghost use Rattle.ask_seats.specs.Sessions.{bound_after, growth};
+ghost use Rattle.ask_seats.specs.Carrying.{Leads};
 ghost use Rattle.ask_seats.specs.Talks.{growth_reply, up_to};
 
 use airy_index::Key;
@@ -103,6 +104,7 @@ pub(crate) fn reopen(
     ensures len { IfOk result (λ o. vec_len o.seats ≡ workers + 1) }
     ensures all { IfOk result (λ o. AreAll o.board o.seats.items) }
     ensures carried { IfOk result (λ o. carried_of o.board ≡ carried_in closed.table) }
+    ensures leads { IfOk result (λ o. Leads (carried_of o.board) o.seats.items) }
     ensures knows { IfOk result (λ o. EachSeat (λ s. (r : ℕ) → has r (carried_of o.board) ≡ true → Knows s r) o.seats.items) }
 {
     let Closed {

@@ -10,9 +10,10 @@ ghost use Rattle.cell_words.specs.Deals.{AreAll, receipts_of};
 ghost use Rattle.cell_words.specs.Layout.{cells, IsPartial};
 ghost use Rattle.cell_words.specs.Resuming.{CanResume};
 ghost use Rattle.cell_words.specs.Seats.{plan_of, seats_of, carried_of, IsSeatOf, EachSeat, standing_of};
-ghost use Rattle.fill_crew.specs.Crews.{IsIdle, IsBack, EachAt, PairsAt};
+ghost use Rattle.fill_crew.specs.Crews.{IsIdle, HasWorked, EachAt, PairsAt};
 ghost use Rattle.ask_seats.specs.Counts.{Knows};
 ghost use Rattle.ask_seats.specs.Asks.{AreAsks, ends_finished};
+ghost use Rattle.ask_seats.specs.Carrying.{Leads, LeavesFirst};
 ghost use Rattle.ask_seats.specs.Talks.{AnyOf, Breaks, Carried, FallsSilent, IsPart, Speaks, Writes, growth_reply};
 
 use crate::Line;
@@ -52,7 +53,7 @@ fn answer_beside<R: Threads + Sync, G: Gate + Sync, W: Sink>(
     requires asks { AreAsks lines.now }
     ensures len { vec_len result.0 ≡ vec_len crew }
     ensures room { vec_capacity crew ≤ vec_capacity result.0 }
-    ensures back { PairsAt (IsBack board.now) crew.items result.0.items }
+    ensures back { PairsAt (HasWorked board.now) crew.items result.0.items }
     ensures board { asker.new.board ≡ asker.old.board }
     ensures seat { IsSeatOf board.now asker.new.seat }
     ensures standing { standing_of asker.new.seat ≡ standing_of asker.old.seat }
@@ -117,12 +118,14 @@ fn answer_behind<W: Sink>(
     out: &mut W,
 ) -> Result<Closed, Failed>
     requires seats { AreAll board seats.items }
+    requires leads { Leads (carried_of board) seats.items }
     requires asks { AreAsks lines.now }
     ensures plan { IfOk result (λ c. c.plan ≡ plan_of board) }
     ensures table { IfOk result (λ c. c.table ≡ full_table (tensors_of (plan_of board)) (plan_of board).bound) }
     ensures resumes { IfOk result (λ c. CanResume (plan_of board) c.table) }
     ensures many { IfOk result (λ c. vec_len c.receipts ≡ seats_of board) }
     ensures receipts { IfOk result (λ c. AreReceipts c.table (receipts_in c)) }
+    ensures first { IfOk result (LeavesFirst (carried_of board)) }
     ensures written { OnOk result (Writes (plan_of board) pace.workers pace.finished pace.finished
         (AnyOf (plan_of board)) (AnyOf (plan_of board)) lines.now (W.state out.old).taken (W.state out.new).taken) }
     ensures cut { OnErr result (Breaks (plan_of board) pace.workers pace.finished
@@ -155,6 +158,7 @@ pub(crate) fn talk<R: Threads + Sync, G: Gate + Sync, W: Sink>(
 ) -> Result<Rest, Failed>
     requires seats { AreAll board seats.items }
     requires few { vec_len seats ≤ 17 }
+    requires leads { Leads (carried_of board) seats.items }
     requires knows { EachSeat (λ s. (r : ℕ) → has r (carried_of board) ≡ true → Knows s r) seats.items }
     requires part { IsPart lines.now }
     ensures plan { IfOk result (λ t. t.closed.plan ≡ plan_of board) }
@@ -164,6 +168,7 @@ pub(crate) fn talk<R: Threads + Sync, G: Gate + Sync, W: Sink>(
     ensures resumes { IfOk result (λ t. CanResume (plan_of board) t.closed.table) }
     ensures many { IfOk result (λ t. vec_len t.closed.receipts ≡ seats_of board) }
     ensures receipts { IfOk result (λ t. AreReceipts t.closed.table (receipts_in t.closed)) }
+    ensures first { IfOk result (λ t. LeavesFirst (carried_of board) t.closed) }
     ensures written { IfOk result (λ t. Writes (plan_of board) pace.workers pace.finished t.finished
         (λ r. has r (carried_of board) ≡ true) (Carried t.closed.table) lines.now (W.state out.old).taken (W.state out.new).taken) }
     ensures cut { OnErr result (Breaks (plan_of board) pace.workers pace.finished
@@ -217,6 +222,7 @@ pub(crate) fn speak<R: Threads + Sync, G: Gate + Sync, W: Sink>(
 ) -> Result<Rest, Failed>
     requires seats { AreAll opened.board opened.seats.items }
     requires few { vec_len opened.seats ≤ 17 }
+    requires leads { Leads (carried_of opened.board) opened.seats.items }
     requires knows { EachSeat (λ s. (r : ℕ) → has r (carried_of opened.board) ≡ true → Knows s r) opened.seats.items }
     requires part { IsPart lines.now }
     ensures plan { IfOk result (λ t. t.closed.plan ≡ plan_of opened.board) }
@@ -226,6 +232,7 @@ pub(crate) fn speak<R: Threads + Sync, G: Gate + Sync, W: Sink>(
     ensures resumes { IfOk result (λ t. CanResume (plan_of opened.board) t.closed.table) }
     ensures many { IfOk result (λ t. vec_len t.closed.receipts ≡ seats_of opened.board) }
     ensures receipts { IfOk result (λ t. AreReceipts t.closed.table (receipts_in t.closed)) }
+    ensures first { IfOk result (λ t. LeavesFirst (carried_of opened.board) t.closed) }
     ensures spoken { IfOk result (λ t. Speaks (plan_of opened.board) pace.workers pace.finished t.finished
         (λ r. has r (carried_of opened.board) ≡ true) (Carried t.closed.table)
         (growth_reply opened.growth) lines.now (W.state out.old).taken (W.state out.new).taken) }

@@ -7,6 +7,7 @@ ghost use Rattle.cell_words.specs.Closings.{AreReceipts, receipts_in};
 ghost use Rattle.cell_words.specs.Layout.{IsPartial};
 ghost use Rattle.ask_seats.specs.Asks.{Fails, FinishesOnce, Rises, Spoken, ends_finished, session_of};
 ghost use Rattle.ask_seats.specs.Sessions.{bound_behind};
+ghost use Rattle.ask_seats.specs.Carrying.{KeepsCarried};
 ghost use Rattle.ask_seats.specs.Talks.{GoesOn, IsLeft, Paused};
 
 use crate::growth::reopen;
@@ -38,8 +39,10 @@ fn go_on<R: Threads + Sync, G: Gate + Sync, W: Sink>(
     ensures left { IfOk result (λ c. IsLeft c crew lines.now) }
     ensures spoken { IfOk result (λ c. (q : Planning) (old : Option (List ℕ))
         → Paused q rest.closed.plan crew rest.finished rest.closed.table (take at lines.now) old (W.state out.old).taken
+        → KeepsCarried q (take at lines.now) rest.closed
         → (c.plan.tensors ≡ q.tensors) × (c.plan.bound ≡ bound_behind (tensors_of q) q.bound lines.now)
-        × Spoken (session_of q crew) q.bound lines.now old (W.state out.new).taken) }
+        × Spoken (session_of q crew) q.bound lines.now old (W.state out.new).taken
+        × KeepsCarried q lines.now c) }
     ensures steady { OnOk result ((W.state out.new).faults ≡ (W.state out.old).faults) }
     ensures fails { IfErr result (λ e. (q : Planning) (old : Taking) → Rises q.bound lines.now
         → Paused q rest.closed.plan crew rest.finished rest.closed.table (take at lines.now) old.taken (W.state out.old).taken
@@ -73,7 +76,8 @@ fn go_on<R: Threads + Sync, G: Gate + Sync, W: Sink>(
 /// Answers the lines of a session, part by part. Its parts are parted by the `grow` lines. In each part the lines before `finish` are
 /// answered while so many workers fill the cells of the plan, each asking the gate before a cell, and those behind it when every cell is
 /// filled. At a `grow` the plan is grown, where the greater one is within its limits, and the filled cells are carried over to a new board
-/// with a new crew. Each line is written before the next is begun. The plan, the table and the receipts of the last board are handed out.
+/// with a new crew. Each line is written before the next is begun. The plan, the table and the receipts of the last board are handed out, in which
+/// what was carried over stands before what seat number 0 filled.
 pub fn session<R: Threads + Sync, G: Gate + Sync, W: Sink>(
     rt: &R,
     alloc: Global,
@@ -92,6 +96,7 @@ pub fn session<R: Threads + Sync, G: Gate + Sync, W: Sink>(
     ensures full { IfOk result (λ c. ends_finished false lines.now ≡ true → c.table ≡ full_table (tensors_of c.plan) c.plan.bound) }
     ensures many { IfOk result (λ c. vec_len c.receipts ≡ crew + 1) }
     ensures receipts { IfOk result (λ c. AreReceipts c.table (receipts_in c)) }
+    ensures carried { IfOk result (KeepsCarried plan lines.now) }
     ensures spoken { OnOk result (Spoken (session_of plan crew) plan.bound lines.now (W.state out.old).taken (W.state out.new).taken) }
     ensures steady { OnOk result ((W.state out.new).faults ≡ (W.state out.old).faults) }
     ensures fails { IfErr result (Fails (session_of plan crew) plan.bound lines.now (W.state out.old) (W.state out.new)) }

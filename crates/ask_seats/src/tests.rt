@@ -9,7 +9,7 @@ use airy_io::{Failed, MemSink, Sink};
 use amp_plan::Plan;
 use amp_terms::{Table, one_thread};
 use cell_words::{Cells, FillSeat, Frontier, LevelSeat, level_alone};
-use fill_crew::{Gate, OpenGate, StopAfter};
+use fill_crew::{Gate, OpenGate, StopAfter, StopAt, StopWorker};
 use frac128::Frac;
 use sparse_tensor::{PutErr, Tensors};
 use std::alloc::Global;
@@ -300,13 +300,14 @@ fn a_sum_that_leaves_the_range(rt: HostRuntime) {
 }
 
 /// Whether a session that begins at this bound writes this text.
-fn grows<R: Threads + Sync>(
+fn grows<R: Threads + Sync, G: Gate + Sync>(
     rt: &R,
     alloc: Global,
     plan: Option<Plan>,
     bound: u8,
     crew: u8,
     lines: &[Line],
+    gate: &G,
     text: &[u8],
 ) -> bool
     requires crew { crew ≤ 16 }
@@ -319,7 +320,7 @@ fn grows<R: Threads + Sync>(
     let Some(mut out) = sink_of(alloc, NEVER) else {
         return false;
     };
-    plan.bound() == bound && writes_into(rt, alloc, plan, crew, lines, &OpenGate, &mut out, text)
+    plan.bound() == bound && writes_into(rt, alloc, plan, crew, lines, gate, &mut out, text)
 }
 
 /// The plan of Witten and Kontsevich up to 1, over the indices that one up to 6 wants.
@@ -355,6 +356,7 @@ fn settled_keys_stay_so(rt: HostRuntime) {
             1,
             0,
             &around_growth(),
+            &OpenGate,
             text
         )
     );
@@ -390,20 +392,49 @@ fn five_growths() -> [Line; 17]
 const FIVE_GROWTHS: &[u8] =
     b"1/8\ngrown to 2\n3/8\ngrown to 3\n105/128\ngrown to 4\n1155/128\ngrown to 5\n25025/1024\ngrown to 6\n425425/1024\n";
 
+fn grows_five<R: Threads + Sync, G: Gate + Sync>(rt: &R, alloc: Global, crew: u8, gate: &G) -> bool
+    requires { crew ≤ 16 }
+{
+    let lines = five_growths();
+    grows(
+        rt,
+        alloc,
+        first_plan(alloc),
+        1,
+        crew,
+        &lines,
+        gate,
+        FIVE_GROWTHS,
+    )
+}
+
+/// Whether the replies are the same where each worker of each part stops after so many cells.
+fn grows_when_stopped<R: Threads + Sync>(rt: &R, alloc: Global, crew: u8) -> bool
+    requires { crew ≤ 16 }
+{
+    for cells in [0u32, 1, 7] {
+        if !grows_five(rt, alloc, crew, &StopAfter { cells }) {
+            return false;
+        }
+    }
+    true
+}
+
+/// Whether they are so under every gate.
+fn grows_under_gates<R: Threads + Sync>(rt: &R, alloc: Global, crew: u8) -> bool
+    requires { crew ≤ 16 }
+{
+    grows_five(rt, alloc, crew, &OpenGate)
+        && grows_five(rt, alloc, crew, &StopAt { rank: 0 })
+        && grows_five(rt, alloc, crew, &StopAt { rank: 5 })
+        && grows_five(rt, alloc, crew, &StopWorker { worker: 0 })
+        && grows_when_stopped(rt, alloc, crew)
+}
+
 #[test]
-fn growths_beside_every_crew(rt: HostRuntime) {
+fn growths_beside_every_crew_and_gate(rt: HostRuntime) {
     for crew in [0u8, 1, 8] {
-        assert!(rt;
-            grows(
-                &rt,
-                rt.alloc(),
-                first_plan(rt.alloc()),
-                1,
-                crew,
-                &five_growths(),
-                FIVE_GROWTHS
-            )
-        );
+        assert!(rt; grows_under_gates(&rt, rt.alloc(), crew));
     }
 }
 
@@ -420,22 +451,42 @@ fn is_same_table(one: &Table, other: &Table) -> bool {
     true
 }
 
-/// Whether the last board of the five growths has the table of one thread up to 6.
-fn ends_as_one_thread<R: Threads + Sync>(rt: &R, alloc: Global) -> Option<bool> {
+/// Whether a session of the first of these lines ends with the table of one thread up to a bound.
+fn ends_as_one_thread<R: Threads + Sync>(
+    rt: &R,
+    alloc: Global,
+    lines: &[Line],
+    end: usize,
+    bound: u8,
+) -> Option<bool>
+    requires finish { FinishesOnce false lines.now }
+    requires rises { Rises 1 lines.now }
+    requires end { end ≤ length lines.now }
+{
     let plan = first_plan(alloc)?;
     if plan.bound() != 1 {
         return None;
     }
     let mut out = sink_of(alloc, NEVER)?;
-    let lines = five_growths();
-    let closed = session(rt, alloc, plan, 2, &lines, &OpenGate, &mut out).ok()?;
+    let closed = session(rt, alloc, plan, 2, &lines[..end], &OpenGate, &mut out).ok()?;
     let one = one_thread(alloc, &closed.plan).ok()?;
-    Some(closed.plan.bound() == 6 && is_same_table(&closed.table, &one))
+    Some(closed.plan.bound() == bound && is_same_table(&closed.table, &one))
+}
+
+/// Whether each part of the five growths ends with the whole table up to its bound.
+fn each_part_is_whole<R: Threads + Sync>(rt: &R, alloc: Global) -> bool {
+    let lines = five_growths();
+    ends_as_one_thread(rt, alloc, &lines, 2, 1) == Some(true)
+        && ends_as_one_thread(rt, alloc, &lines, 5, 2) == Some(true)
+        && ends_as_one_thread(rt, alloc, &lines, 8, 3) == Some(true)
+        && ends_as_one_thread(rt, alloc, &lines, 11, 4) == Some(true)
+        && ends_as_one_thread(rt, alloc, &lines, 14, 5) == Some(true)
+        && ends_as_one_thread(rt, alloc, &lines, 17, 6) == Some(true)
 }
 
 #[test]
-fn a_grown_table_is_that_of_one_thread(rt: HostRuntime) {
-    assert!(rt; ends_as_one_thread(&rt, rt.alloc()) == Some(true));
+fn each_grown_table_is_that_of_one_thread(rt: HostRuntime) {
+    assert!(rt; each_part_is_whole(&rt, rt.alloc()));
 }
 
 /// A growth that is refused, and asks at the old bound.
@@ -473,6 +524,7 @@ fn growth_refused_by_cells(rt: HostRuntime) {
             2,
             0,
             &refused_growth(3),
+            &OpenGate,
             text
         )
     );
@@ -513,6 +565,7 @@ fn growth_refused_by_needs(rt: HostRuntime) {
             1,
             0,
             &refused_growth(6),
+            &OpenGate,
             text
         )
     );

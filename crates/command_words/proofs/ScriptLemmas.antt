@@ -1,6 +1,7 @@
 -- Words of scripts, cut at a letter and read.
 use Rattle.std.proofs.Common.{◌≡◌, ◌≢◌, ℕ, suc, ◌+◌, ◌-◌, ◌<◌, ◌≤◌, Bool, true, false, ◌==◌, List, [], ◌∷◌, ◌++◌, length, get_or, refl, sym, ap, ◌∙◌, subst, arith, rules, Option, Some, None}
-use Rattle.std.specs.Prelude.{Result, Ok, Err, IsTrue, cond, nat_lt}
+use Rattle.std.specs.Prelude.{Result, Ok, Err, IsTrue, codes, cond, nat_lt}
+use Rattle.std.specs.Str.{bytes_eq}
 use Rattle.std.proofs.lemmas.List.{append_assoc, length-append}
 use Rattle.std.proofs.lemmas.Bool.Decides.{nat_tests}
 use Rattle.std.proofs.lemmas.Grind.{common_steps}
@@ -68,6 +69,20 @@ four_parts a g d w = by (parts 58 w) (omega (arith, length-slice_split (λ x. x 
     by : (ws : List (List ℕ)) → 0 < length ws → ask_of_parts (a ∷ g ∷ d ∷ ws) ≡ None
     by [] h = absurd (omega arith)
     by (e ∷ ws) h = refl
+
+-- the name of an ask's word is `ask`
+pub named_ask : (a : List ℕ) (ws : List (List ℕ)) → ask_of_parts (a ∷ ws) ≡ cond (bytes_eq a (codes "ask")) (ask_of_parts (codes "ask" ∷ ws)) None
+named_ask a ws = by (bytes_eq a (codes "ask")) refl ws
+  where
+    by : (b : Bool) → bytes_eq a (codes "ask") ≡ b → (ws : List (List ℕ)) → ask_of_parts (a ∷ ws) ≡ cond b (ask_of_parts (codes "ask" ∷ ws)) None
+    by true e [] = refl
+    by false e [] = refl
+    by true e (g ∷ []) = refl
+    by false e (g ∷ []) = refl
+    by true e (g ∷ d ∷ []) = rw e refl
+    by false e (g ∷ d ∷ []) = rw e refl
+    by true e (g ∷ d ∷ h ∷ ws) = refl
+    by false e (g ∷ d ∷ h ∷ ws) = refl
 
 -- ---- the lines
 

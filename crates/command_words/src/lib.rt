@@ -24,5 +24,6 @@ pub use laws::first_refused_word;
 pub use line::Line;
 pub use numbers::{read_long, read_short};
 pub use options::{Left, Mode};
-pub use scripts::lines_made;
+pub use places::read_kind;
+pub use scripts::{lines_made, read_asked};
 pub use words::read_words;

@@ -9,8 +9,8 @@ use crate::options::{Left, Next, next_word};
 use airy_math::Family;
 use arrayvec::ArrayVec;
 
-/// Reads KIND.
-fn read_kind(word: &str) -> Option<Kind>
+/// Reads KIND: `wk`, `bgw`, `wp`, or `-` for the text of the source.
+pub fn read_kind(word: &str) -> Option<Kind>
     ensures { option_map kind_of result ≡ kind_of_word word.now }
 {
     match word {

@@ -1,4 +1,4 @@
-ghost use Rattle.std.specs.Prelude.{◌≡◌, ℕ, ◌<◌, ◌∷◌, [], Some, IfOk, IfSome, length, option_map};
+ghost use Rattle.std.specs.Prelude.{◌≡◌, ℕ, ◌<◌, ◌∷◌, ◌++◌, [], Some, IfOk, IfSome, codes, length, option_map};
 ghost use Rattle.std.specs.Option.{option_map_or};
 ghost use Rattle.command_words.specs.Lines.{Rises};
 ghost use Rattle.command_words.specs.Scripts.{ask_for, ask_of_parts, bytes_of_words, line_of_word, parts};
@@ -51,21 +51,31 @@ fn read_key(g: u8, word: &str) -> Option<Key>
     }
 }
 
-/// Reads an ask.
-#[tactic(auto, using(crate::proofs::ScriptLemmas::four_parts))]
-fn read_ask(word: &str) -> Option<Key>
-    ensures { option_map Line.Ask result ≡ ask_of_parts (parts 58 word.now) }
+/// Reads what may stand behind `ask:` in a word of a script: `G:D,D,..`, a genus and 1 to 26 indices that make a stable key. No memory
+/// is taken.
+#[tactic(auto, unfolding(crate::specs::Scripts::line_of_word), using(crate::proofs::ScriptLemmas::four_parts))]
+pub fn read_asked(word: &str) -> Option<Key>
+    ensures { option_map Line.Ask result ≡ line_of_word (codes "ask:" ++ word.now) }
 {
-    let (name, behind) = cut(word, ':');
-    let (genus, behind) = cut(behind?, ':');
+    let (genus, behind) = cut(word, ':');
     let (indices, behind) = cut(behind?, ':');
     if let Some(_more) = behind {
         return None;
     }
+    read_key(read_short(genus.as_bytes(), 0, 255)?, indices)
+}
+
+/// Reads an ask.
+#[tactic(auto, unfolding(crate::specs::Scripts::line_of_word), using(crate::proofs::ScriptLemmas::named_ask))]
+fn read_ask(word: &str) -> Option<Key>
+    ensures { option_map Line.Ask result ≡ ask_of_parts (parts 58 word.now) }
+{
+    let (name, behind) = cut(word, ':');
+    let key = read_asked(behind?)?;
     if name != "ask" {
         return None;
     }
-    read_key(read_short(genus.as_bytes(), 0, 255)?, indices)
+    Some(key)
 }
 
 /// A word of a script. Its bound may be too great for a line.

@@ -12,6 +12,7 @@ use Rattle.amp_terms.specs.declared.Outcome.TheVariants.{Value, Over, Blocked}
 use Rattle.amp_terms.specs.Outcomes.{has_value}
 use Rattle.amp_terms.specs.Tables.{first_without, next_rank}
 use Rattle.series_law.specs.Check.{Verdict, NotValue, check_values}
+use Rattle.series_law.proofs.TableRanks.{never_next}
 use Rattle.amp_terms.specs.Tables.{shown_in}
 
 pub length-map_some : (os : List Outcome) → length (map Some os) ≡ length os
@@ -29,20 +30,6 @@ pub filled_at : (os : List Outcome) (r : ℕ) → r < length os → get_or (map 
 filled_at [] r h = absurd (omega arith)
 filled_at (o ∷ os) zero h = refl
 filled_at (o ∷ os) (suc r) h = filled_at os r (omega arith)
-
-never_next : (o : Option ℕ) → next_rank o ≡ None → o ≡ None
-unfolding next_rank
-never_next None e = refl
-never_next (Some r) e = cc
-
--- where no rank is without a Value, each has one
-pub all_values : (os : List Outcome) → first_without (map Some os) ≡ None → (r : ℕ) → r < length os → has_value (get_or os r Over) ≡ true
-unfolding first_without has_value
-all_values [] e r h = absurd (omega arith)
-all_values (Value v ∷ os) e zero h = refl
-all_values (Value v ∷ os) e (suc r) h = all_values os (never_next _ e) r (omega arith)
-all_values (Over ∷ os) e r h = cc
-all_values (Blocked s ∷ os) e r h = cc
 
 -- then the check goes on to the pivots
 pub values_pass : (os : List Outcome) (start : ℕ) (next : Verdict) → first_without (map Some os) ≡ None → check_values start os next ≡ next

@@ -17,7 +17,8 @@ use Rattle.amp_terms.specs.Tables.{first_without, value_at, value_of_cell, value
 use Rattle.series_law.specs.Check.{Verdict, Solution, check_keys, check_pivots, other_pivots}
 use Rattle.constraint_check.specs.declared.pivots.PivotsEnd.{PivotsEnd}
 use Rattle.constraint_check.specs.Pivots.{verdict_after}
-use Rattle.constraint_check.proofs.FullTables.{all_values, length-map_some}
+use Rattle.series_law.proofs.TableRanks.{all_values}
+use Rattle.constraint_check.proofs.FullTables.{length-map_some}
 
 value_at-full : (os : List Outcome) (r : ℕ) → value_at (map Some os) r ≡ value_of (get_or os r Over)
 unfolding value_at value_of_cell value_of

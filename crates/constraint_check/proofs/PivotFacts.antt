@@ -21,7 +21,8 @@ use Rattle.amp_terms.specs.Pivots.{pivot_outcome, least_without, number_at}
 use Rattle.amp_plan.specs.Ranked.{AreAllowed}
 use Rattle.amp_terms.specs.Tables.{shown_in}
 use Rattle.constraint_check.proofs.NamedRanks.{allowed_named, none_without}
-use Rattle.constraint_check.proofs.FullTables.{shown_in-full, all_values, length-map_some}
+use Rattle.series_law.proofs.TableRanks.{all_values}
+use Rattle.constraint_check.proofs.FullTables.{shown_in-full, length-map_some}
 
 -- the Value of an outcome that nothing blocks is what is obtained
 value_of-from : (o : Option ℕ) (s : Option ℚ) → o ≡ None → value_of (outcome_from o s) ≡ s

@@ -8,7 +8,7 @@ ghost use Rattle.constraint_check.specs.Pivots.{HoldsValues, EndSo, obtained_at}
 
 use airy_index::Key;
 use amp_plan::Plan;
-use amp_terms::{Outcome, Seen, Table, pivot_value};
+use amp_terms::{Table, TableOutcomes, pivot_value};
 use frac128::Frac;
 
 /// How the pivots of one key end.
@@ -20,31 +20,6 @@ pub(crate) enum PivotsEnd {
     Over { pivot: u8 },
     /// The sum at this index is another number than the key's Value.
     Differ { pivot: u8, sum: Frac },
-}
-
-/// The outcomes of a table, for the terms of a pivot sum.
-#[derive(Drop)]
-struct TableOutcomes<'a> {
-    table: &'a Table,
-}
-
-impl Seen for TableOutcomes<'_> {
-    ghost use Rattle.std.specs.Prelude.{◌<◌, List, Option, length};
-    ghost use Rattle.amp_terms.specs.declared.Outcome.{Outcome};
-    ghost use Rattle.amp_terms.specs.Tables.{shown_in};
-
-    ghost Base = { List (Option Outcome) };
-
-    ghost made_over = { λ s. s.table.now };
-
-    ghost has = { λ s r. r < length s.table.now };
-
-    ghost shown = { λ s r. shown_in s.table.now r };
-
-    #[tactic(auto, unfolding(amp_terms::specs::Tables::shown_in))]
-    fn at(&mut self, rank: u32) -> Outcome {
-        self.table.outcome(rank).unwrap_or(Outcome::Over)
-    }
 }
 
 /// The pivot sum of a key at one of its indices over a table of Values, where it stays in range.

@@ -2,7 +2,7 @@
 use Rattle.std.proofs.Common.{◌≡◌, ℕ, zero, suc, ◌+◌, ◌-◌, ◌*◌, ◌<◌, ◌≤◌, Bool, true, false, List, [], ◌∷◌, map, length, refl, sym, ap, ap₂, ◌∙◌, arith}
 use mathlib.Core.Logic.{◌⊎◌, inl, inr}
 use Rattle.std.specs.Prelude.{eqb, ltb, ◌&&◌}
-use Rattle.std.proofs.lemmas.Bool.{cases_lt, eqb-true, eq-eqb, ne_eqb, lt-ltb, le-ltb, and_parts}
+use Rattle.std.proofs.lemmas.Bool.{cases_lt, eqb-true, eq-eqb, ne_eqb, lt-ltb, le-ltb}
 use Rattle.airy_math.specs.Rational.{ℚ}
 use Rattle.airy_math.specs.RationalLaws.{0ℚ}
 use Rattle.airy_math.specs.Sums.{sum_over, when, below}
@@ -12,13 +12,6 @@ use Rattle.airy_math.proofs.PivotLaw.{when-none}
 use Rattle.airy_math.proofs.PivotLemmas.{when-and}
 use Rattle.airy_math.proofs.StartLaw.{sum-one, sum-when}
 use Rattle.correlators.specs.Volumes.{lists_of_sum, lists_up_to}
-
-pub same_list-true : (xs ys : List ℕ) → same_list xs ys ≡ true → xs ≡ ys
-unfolding same_list
-same_list-true [] [] e = refl
-same_list-true [] (y ∷ ys) e = cc
-same_list-true (x ∷ xs) [] e = cc
-same_list-true (x ∷ xs) (y ∷ ys) e = let h = and_parts (eqb x y) (same_list xs ys) e in ap₂ (λ a l. a ∷ l) (eqb-true x y h.0) (same_list-true xs ys h.1)
 
 same_test : (a b c d : ℕ) → (a ≡ b → c ≡ d) → (c ≡ d → a ≡ b) → eqb a b ≡ eqb c d
 same_test a b c d f g = by (eqb a b) refl

@@ -30,7 +30,8 @@ use Rattle.correlators.specs.Volumes.{Part, part, table_term, table_terms, table
 use Rattle.correlators.specs.Kept.{IsAsked, AreCoefficients, AddsTerms}
 use Rattle.correlators.specs.Laws.{IsShown, coefficient_in}
 use Rattle.correlators.proofs.ExactLemmas.{all_exact}
-use Rattle.correlators.proofs.ListedLemmas.{same_list-true, doubled_same, listed_up_to}
+use Rattle.airy_math.proofs.PivotLaw.{same_list-true}
+use Rattle.correlators.proofs.ListedLemmas.{doubled_same, listed_up_to}
 use Rattle.correlators.proofs.NumberLaw.{amplitude_there}
 use Rattle.correlators.proofs.OrderLemmas.{exponents-ordered, factorials-ordered, sorted-ordered}
 use Rattle.correlators.proofs.TermLemmas.{below_all, total-ordered, covers_wp, placed, coefficient_at}

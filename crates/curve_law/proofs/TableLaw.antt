@@ -5,12 +5,12 @@ use mathlib.Core.List.{List}
 use mathlib.Core.Logic.{◌⊎◌, inl, inr}
 use lib.IntN.{pos}
 use lib.ListN.{get_or}
-use Rattle.airy_math.specs.Cuts.{letter_of, outer, power}
+use Rattle.airy_math.specs.Cuts.{letter_of, outer}
 use Rattle.airy_math.specs.Families.{top_wk}
 use Rattle.airy_math.specs.Keys.{indices, key_of}
 use Rattle.airy_math.specs.Planned.{planned}
 use Rattle.airy_math.specs.Rational.{ℚ, ◌*ℚ◌, ◌/ℚ◌}
-use Rattle.airy_math.specs.RationalLaws.{1ℚ, 1ℚ_idl}
+use Rattle.airy_math.specs.RationalLaws.{1ℚ}
 use Rattle.airy_math.specs.Series.{Series}
 use Rattle.airy_math.specs.Solutions.{Solves, factorials}
 use Rattle.airy_math.specs.Tensors.{Tensors, SameEntries}
@@ -27,6 +27,7 @@ use Rattle.series_law.specs.Pivots.{Shown, series_with}
 use Rattle.series_law.specs.SameTables.{SameTables}
 use Rattle.series_law.specs.Uniqueness.{series_of}
 use Rattle.series_law.proofs.CheckLaw.{check_law, two_orders}
+use Rattle.series_law.proofs.JobLaw.{one_times}
 use Rattle.series_law.proofs.PivotsLaw.{cut_uniqueness, cut_solution, cut_orders}
 use Rattle.series_law.proofs.SameTablesLaw.{same_tables}
 use Rattle.airy_curve.specs.Curve.{curve}
@@ -34,9 +35,6 @@ use Rattle.airy_curve.specs.Cuts.{whole_curve, IsCurveCut}
 use Rattle.airy_curve.proofs.CurveCuts.{curve_cut_law}
 use Rattle.airy_curve.proofs.ShapeLaw.{curve_shape_law}
 use Rattle.curve_law.specs.Tables.{IsCurveTable, CurveTableLaw}
-
-one_times : (e : ℕ) (w : ℚ) → power 1ℚ e *ℚ w ≡ w
-one_times e w = ap (λ t. t *ℚ w) (power-one e) ∙ 1ℚ_idl w
 
 -- the letter 1 leaves the series
 without_letter : (T : Tensors) (X : ℕ) (table : List Outcome) → series_with 1ℚ T X table ≡ series_of T X table

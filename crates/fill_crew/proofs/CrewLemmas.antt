@@ -26,7 +26,7 @@ use Rattle.cell_words.proofs.AloneLemmas.{same_numbers}
 use Rattle.cell_words.proofs.BookLemmas.{has_at}
 use Rattle.cell_words.proofs.DealLemmas.{same_default}
 use Rattle.cell_words.proofs.PartLemmas.{has_append}
-use Rattle.fill_crew.specs.Crews.{IsIdle, IsBack, HasWorked, AreSwept}
+use Rattle.fill_crew.specs.Crews.{IsIdle, IsBack, BeginsWith, HasWorked, AreSwept}
 
 -- ---- what is true of what the items of lists have
 
@@ -94,6 +94,10 @@ more_receipts (s ∷ ss) (t ∷ ts) xs e some first others r =
     comes false true c h = refl
     comes false false c h = absurd (true≢false (sym h))
 
+-- what is put behind a list leaves its front
+pub begins_more : (ranks xs ys zs : List ℕ) → BeginsWith ranks xs → ys ≡ xs ++ zs → BeginsWith ranks ys
+begins_more ranks xs ys zs h e = (h.0 ++ zs, e ∙ ap (λ l. l ++ zs) h.1 ∙ append_assoc ranks h.0 zs)
+
 -- what was swept stays so when the next rank is filled
 pub swept_more : (b : Countdown) (n : ℕ) (old mid new : List CountSeat) → AreSwept b n old mid → AreAll b new → length new ≡ length mid
     → ((j : ℕ) (d : CountSeat) → j < length mid → IsAfter n (get_or mid j d) (get_or new j d))
@@ -105,6 +109,8 @@ swept_more b n old mid new h all len after fills stays others = record {
   all = all;
   len = len ∙ h.len;
   number = λ j d l. (after j d (omega (arith, l, h.len))).number ∙ h.number j d l;
+  first = λ d. grows d (has n (receipts_of mid)) refl;
+  others = λ j d p l. others j d p (omega (arith, l, h.len)) ∙ h.others j d p l;
   filled = λ r l. by (has n (receipts_of mid)) refl r l;
   knows = λ j d r l low. dite (ℕ_discrete r n)
       (λ e. subst (Known (view_of (get_or new j d))) (sym e) (after j d (omega (arith, l, h.len))).knows)
@@ -113,6 +119,10 @@ swept_more b n old mid new h all len after fills stays others = record {
   where
     some : 0 < length mid
     some = omega (arith, len, all.seats.some)
+
+    grows : (d : CountSeat) (t : Bool) → has n (receipts_of mid) ≡ t → BeginsWith (get_or old 0 d).done.items (get_or new 0 d).done.items
+    grows d true e = begins_more (get_or old 0 d).done.items (get_or mid 0 d).done.items (get_or new 0 d).done.items [] (h.first d) (stays d e ∙ sym (append-nil (get_or mid 0 d).done.items))
+    grows d false e = begins_more (get_or old 0 d).done.items (get_or mid 0 d).done.items (get_or new 0 d).done.items (n ∷ []) (h.first d) (fills d e)
 
     by : (t : Bool) → has n (receipts_of mid) ≡ t → (r : ℕ) → r < n + 1 → has r (receipts_of new) ≡ true
     by true e r l =
@@ -124,7 +134,7 @@ swept_more b n old mid new h all len after fills stays others = record {
 
 -- before the first rank nothing was swept
 pub swept_none : (b : Countdown) (ss : List CountSeat) → AreAll b ss → AreSwept b 0 ss ss
-swept_none b ss all = record { all = all; len = refl; number = λ j d l. refl; filled = λ r l. absurd (omega arith); knows = λ j d r l low. absurd (omega arith) }
+swept_none b ss all = record { all = all; len = refl; number = λ j d l. refl; first = λ d. ([], sym (append-nil (get_or ss 0 d).done.items)); others = λ j d p l. refl; filled = λ r l. absurd (omega arith); knows = λ j d r l low. absurd (omega arith) }
 
 -- ---- all seats of a board
 

@@ -40,7 +40,7 @@ fn close_swept(board: Countdown, mut seats: Vec<CountSeat>) -> Closed
 }
 
 /// Fills a board by workers with all seats but the last, sweeps and closes it. These are all its seats.
-fn fill_board<R: Threads + Sync, G: Gate + Sync>(
+pub(crate) fn fill_board<R: Threads + Sync, G: Gate + Sync>(
     rt: &R,
     alloc: Global,
     board: Countdown,

@@ -3,8 +3,10 @@ ghost use Rattle.cell_words.specs.Layout.{cells};
 ghost use Rattle.cell_words.specs.LevelSeats.{IsAsker, IsFiller};
 ghost use Rattle.cell_words.specs.Seats.{plan_of, number_of, held_of, IsSeatOf};
 ghost use Rattle.cell_words.specs.Deals.{AreAll};
+ghost use Rattle.cell_words.specs.Resuming.{CanResume};
 ghost use Rattle.fill_crew.specs.Crews.{IsIdle, IsBack, EachAt, PairsAt};
 
+use crate::sweeps::fill_board;
 use crate::{
     Gate, OpenGate, StopAfter, StopAt, StopWorker, fill_all, fill_beside, level_beside, sweep,
 };
@@ -387,6 +389,81 @@ fn every_gate<R: Threads + Sync>(rt: &R, alloc: Global, crew: u8) -> bool
 fn every_crew_and_gate(rt: HostRuntime) {
     for crew in [0u8, 1, 2, 4, 16] {
         assert!(rt; every_gate(&rt, rt.alloc(), crew));
+    }
+}
+
+/// The two copies' board up to 3, closed when one worker has filled so many cells.
+fn stopped<R: Threads + Sync>(rt: &R, alloc: Global, cells: u32) -> Option<Closed>
+    ensures { IfSome result (λ c. CanResume c.plan c.table) }
+{
+    let plan = planned(alloc, two_copies(alloc)?, 3, 26)?;
+    let Ok((board, seats)) = Countdown::make(alloc, plan, 1) else {
+        return None;
+    };
+    let gate = StopAfter { cells };
+    let (seats, ()) = fill_beside(rt, alloc, &board, seats, &gate, &mut || {});
+    Some(board.close(seats))
+}
+
+/// A board that goes on from there with so many workers, swept and closed.
+fn go_on<R: Threads + Sync>(rt: &R, alloc: Global, closed: Closed, crew: u8) -> Option<Closed>
+    requires can { CanResume closed.plan closed.table }
+    requires few { crew ≤ 16 }
+{
+    let Closed {
+        plan,
+        table,
+        receipts: _,
+    } = closed;
+    let Ok((board, seats)) = Countdown::resume(alloc, plan, table, crew + 1) else {
+        return None;
+    };
+    Some(fill_board(rt, alloc, board, seats, &OpenGate))
+}
+
+/// The ranks that have an outcome, ascending.
+fn filled_ranks(alloc: Global, table: &Table) -> Option<Vec<u32>> {
+    let mut ranks = Vec::new(alloc);
+    for rank in 0..table.len() {
+        if table.outcome(rank).is_some() {
+            ranks.push(rank).ok()?;
+        }
+    }
+    Some(ranks)
+}
+
+/// Whether the first receipts are these, and the whole is as one thread fills it.
+fn is_carried_on(alloc: Global, closed: &Closed, carried: &[u32]) -> Option<bool> {
+    let first = closed.receipts.first()?;
+    Some(first.starts_with(carried) && is_filled(alloc, closed)?)
+}
+
+/// Whether a board that one worker left with so many cells is filled by a crew behind what was carried.
+fn resumes<R: Threads + Sync>(rt: &R, alloc: Global, cells: u32, crew: u8) -> Option<bool>
+    requires { crew ≤ 16 }
+{
+    let closed = stopped(rt, alloc, cells)?;
+    let carried = filled_ranks(alloc, &closed.table)?;
+    let many = carried.len() == cells as usize;
+    let closed = go_on(rt, alloc, closed, crew)?;
+    Some(many && is_carried_on(alloc, &closed, carried.as_slice())?)
+}
+
+fn resumes_at_each<R: Threads + Sync>(rt: &R, alloc: Global, crew: u8) -> bool
+    requires { crew ≤ 16 }
+{
+    for cells in [0u32, 1, 7, 26] {
+        if resumes(rt, alloc, cells, crew) != Some(true) {
+            return false;
+        }
+    }
+    true
+}
+
+#[test]
+fn boards_that_go_on(rt: HostRuntime) {
+    for crew in [0u8, 1, 4] {
+        assert!(rt; resumes_at_each(&rt, rt.alloc(), crew));
     }
 }
 

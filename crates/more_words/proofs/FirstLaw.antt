@@ -4,8 +4,9 @@ use Rattle.std.specs.Prelude.{cond, codes}
 use Rattle.std.specs.Str.{bytes_eq}
 use Rattle.std.proofs.lemmas.List.{append_assoc, length-append, take-append-le, take-append-drop}
 use Rattle.std.proofs.lemmas.Bool.{cases_lt}
-use Rattle.command_words.specs.Words.{long_number, short_number}
-use Rattle.more_words.specs.MoreWords.{Reading, Curve, CurveRelations, Brackets, Quick, Refused, Numbered, numbered, crew_number, reads, read_curve, read_curve_relations, read_brackets, read_quick, reading_of}
+use Rattle.airy_math.specs.declared.Family.TheVariants.{Wk}
+use Rattle.command_words.specs.Words.{Named, kind_of_word, long_number, short_number}
+use Rattle.more_words.specs.MoreWords.{Reading, Curve, CurveRelations, Brackets, Quick, Json, Verify, Refused, Numbered, numbered, crew_number, reads, read_curve, read_curve_relations, read_brackets, read_quick, read_json, read_verify, read_behind, reading_of}
 use Rattle.more_words.specs.FirstRefused.{IsAccepted, BeginsOne, IsFirstRefused, RefusesFirst, FirstRefusedLaw}
 use Rattle.more_words.proofs.StopLemmas.{Fine, Stops, wrong, missing, behind, here, at_end, Good, ends_good, place_good, values_good}
 
@@ -27,9 +28,15 @@ brackets_good = ends_good Brackets (λ k e. cc)
 quick_good : Good read_quick
 quick_good = number_good long_number refl _ λ X. number_good crew_number refl _ λ n. ends_good (Quick X n) (λ k e. cc)
 
+json_good : Good read_json
+json_good = place_good kind_of_word (codes "wk") (Named Wk) refl _ λ kind. number_good long_number refl _ λ X. number_good crew_number refl _ λ n. ends_good (Json kind X n) (λ k e. cc)
+
+verify_good : Good read_verify
+verify_good = ends_good Verify (λ k e. cc)
+
 -- an accepted command line
 a_line : Fine (reading_of (codes "brackets" ∷ []))
-unfolding reading_of
+unfolding reading_of read_behind
 a_line k e = cc
 
 -- what the first word leads to: a reader of the others, or nothing
@@ -37,22 +44,26 @@ abbrev pub Command : List ℕ → Type 0
 Command w = ((xs : List (List ℕ)) → reading_of (w ∷ xs) ≡ Refused 1)
     ⊎ ((R : Numbered → Reading) × ((xs : List (List ℕ)) → reading_of (w ∷ xs) ≡ R (numbered 2 xs)) × Good R)
 
-abbrev pub command_of : Bool → Bool → Bool → Bool → List (List ℕ) → Reading
-command_of a b c d xs =
+abbrev pub command_of : Bool → Bool → Bool → Bool → Bool → Bool → List (List ℕ) → Reading
+command_of a b c d f g xs =
     cond a (read_curve (numbered 2 xs)) (cond b (read_curve_relations (numbered 2 xs))
-    (cond c (read_brackets (numbered 2 xs)) (cond d (read_quick (numbered 2 xs)) (Refused 1))))
+    (cond c (read_brackets (numbered 2 xs)) (cond d (read_quick (numbered 2 xs))
+    (cond f (read_json (numbered 2 xs)) (cond g (read_verify (numbered 2 xs)) (Refused 1))))))
 
 command : (w : List ℕ) → Command w
-unfolding reading_of
+unfolding reading_of read_behind
 command w = by (bytes_eq w (codes "curve")) (bytes_eq w (codes "curve-relations"))
-    (bytes_eq w (codes "brackets")) (bytes_eq w (codes "quick")) (λ xs. refl)
+    (bytes_eq w (codes "brackets")) (bytes_eq w (codes "quick"))
+    (bytes_eq w (codes "json")) (bytes_eq w (codes "verify")) (λ xs. refl)
   where
-    by : (a b c d : Bool) → ((xs : List (List ℕ)) → reading_of (w ∷ xs) ≡ command_of a b c d xs) → Command w
-    by true b c d is = inr (read_curve, is, curve_good)
-    by false true c d is = inr (read_curve_relations, is, curve_relations_good)
-    by false false true d is = inr (read_brackets, is, brackets_good)
-    by false false false true is = inr (read_quick, is, quick_good)
-    by false false false false is = inl is
+    by : (a b c d f g : Bool) → ((xs : List (List ℕ)) → reading_of (w ∷ xs) ≡ command_of a b c d f g xs) → Command w
+    by true b c d f g is = inr (read_curve, is, curve_good)
+    by false true c d f g is = inr (read_curve_relations, is, curve_relations_good)
+    by false false true d f g is = inr (read_brackets, is, brackets_good)
+    by false false false true f g is = inr (read_quick, is, quick_good)
+    by false false false false true g is = inr (read_json, is, json_good)
+    by false false false false false true is = inr (read_verify, is, verify_good)
+    by false false false false false false is = inl is
 
 stops : (ws : List (List ℕ)) (n : ℕ) → reading_of ws ≡ Refused n → Stops reading_of 1 ws n
 unfolding reading_of
@@ -130,6 +141,8 @@ refused ws n is (Curve X workers us) e = absurd (not_accepted ws n is (λ k h. c
 refused ws n is (CurveRelations N us) e = absurd (not_accepted ws n is (λ k h. cc))
 refused ws n is Brackets e = absurd (not_accepted ws n is (λ k h. cc))
 refused ws n is (Quick X workers) e = absurd (not_accepted ws n is (λ k h. cc))
+refused ws n is (Json kind X workers) e = absurd (not_accepted ws n is (λ k h. cc))
+refused ws n is Verify e = absurd (not_accepted ws n is (λ k h. cc))
 
 pub first_refused : FirstRefusedLaw
 first_refused ws n = (first ws n, λ is. refused ws n is (reading_of ws) refl)

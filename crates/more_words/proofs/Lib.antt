@@ -1,3 +1,4 @@
 mod ValueLemmas
 mod StopLemmas
 mod FirstLaw
+pub mod RefusalLemmas

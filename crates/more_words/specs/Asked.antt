@@ -1,6 +1,6 @@
 -- What the code's reading stands for.
 use Rattle.std.specs.Prelude.{ℕ, ◌+◌, ◌≤◌, ◌<◌, ◌^◌, List, length, map, string_bytes, Result, Ok, Err}
-use Rattle.command_words.specs.Asked.{IsCrew, IsPlaces}
+use Rattle.command_words.specs.Asked.{IsCrew, IsPlaces, kind_of}
 use Rattle.more_words.specs.declared.asked.MoreAsked.{MoreAsked}
 use Rattle.more_words.specs.declared.asked.MoreAsked.TheVariants as asked
 use Rattle.more_words.specs.declared.places.Left.{Left}
@@ -14,6 +14,8 @@ reading (asked.Curve bound workers u) = words.Curve bound workers u
 reading (asked.CurveRelations places u) = words.CurveRelations places u
 reading asked.Brackets = words.Brackets
 reading (asked.Quick bound workers) = words.Quick bound workers
+reading (asked.Json kind bound workers) = words.Json (kind_of kind) bound workers
+reading asked.Verify = words.Verify
 reading (asked.Refused before) = words.Refused (before + 1)
 
 -- what is asked for, or how many words stand before the first that is refused
@@ -48,4 +50,6 @@ IsFit (asked.Curve bound workers u) = (bound < 10 ^ 9) × IsCrew workers × (len
 IsFit (asked.CurveRelations places u) = IsPlaces places × (length u ≤ 24)
 IsFit asked.Brackets = Unit {0}
 IsFit (asked.Quick bound workers) = (bound < 10 ^ 9) × IsCrew workers
+IsFit (asked.Json kind bound workers) = (bound < 10 ^ 9) × IsCrew workers
+IsFit asked.Verify = Unit {0}
 IsFit (asked.Refused before) = Unit {0}

@@ -2,4 +2,5 @@
 pub mod MoreWords
 pub mod Asked
 pub mod FirstRefused
+pub mod Refusals
 pub mod MoreExamples

@@ -2,12 +2,14 @@
 use mathlib.Core.Path.{◌≡◌, refl}
 use Rattle.std.specs.Prelude.{ℕ, [], ◌∷◌, codes, pos, neg_ℤ}
 use Rattle.airy_math.specs.Rational.{◌/ℚ◌}
-use Rattle.more_words.specs.MoreWords.{Curve, CurveRelations, Brackets, Quick, Refused, reading_of}
+use Rattle.airy_math.specs.declared.Family.TheVariants.{Wp}
+use Rattle.command_words.specs.Words.{Named, Text}
+use Rattle.more_words.specs.MoreWords.{Curve, CurveRelations, Brackets, Quick, Json, Verify, Refused, read_behind, reading_of}
 use Rattle.tensor_text.specs.Examples.{text_computes}
 
 -- To name this on an `unfolding` line opens all that reads words.
 unfoldable pub words_compute : ℕ → ℕ
-unfolding text_computes reading_of
+unfolding text_computes reading_of read_behind
 words_compute n = n
 
 none : reading_of [] ≡ Refused 1
@@ -66,3 +68,23 @@ no_workers = refl
 many_words : reading_of (codes "quick" ∷ codes "1" ∷ codes "1" ∷ codes "1" ∷ []) ≡ Refused 4
 unfolding words_compute
 many_words = refl
+
+a_document : reading_of (codes "json" ∷ codes "wp" ∷ codes "03" ∷ codes "2" ∷ []) ≡ Json (Named Wp) 3 2
+unfolding words_compute
+a_document = refl
+
+of_a_text : reading_of (codes "json" ∷ codes "-" ∷ codes "0" ∷ codes "16" ∷ []) ≡ Json Text 0 16
+unfolding words_compute
+of_a_text = refl
+
+no_kind : reading_of (codes "json" ∷ codes "kdv" ∷ codes "1" ∷ codes "0" ∷ []) ≡ Refused 2
+unfolding words_compute
+no_kind = refl
+
+verify : reading_of (codes "verify" ∷ []) ≡ Verify
+unfolding words_compute
+verify = refl
+
+verify_what : reading_of (codes "verify" ∷ codes "-" ∷ []) ≡ Refused 2
+unfolding words_compute
+verify_what = refl

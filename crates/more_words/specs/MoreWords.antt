@@ -2,7 +2,7 @@
 use Rattle.std.specs.Prelude.{ℕ, zero, suc, ◌+◌, List, [], ◌∷◌, codes, cond, Option, Some, None, Result, Ok, Err}
 use Rattle.std.specs.Str.{bytes_eq}
 use Rattle.airy_math.specs.Rational.{ℚ}
-use Rattle.command_words.specs.Words.{long_number, short_number}
+use Rattle.command_words.specs.Words.{Kind, kind_of_word, long_number, short_number}
 use Rattle.tensor_text.specs.Values.{read_value_of}
 
 -- what the words ask for, or the number of the first word that breaks a rule; missing words have the count of words plus 1
@@ -15,6 +15,10 @@ pub data Reading : Type 0 where
   Brackets : Reading
   -- the table of a text up to a bound, with so many workers, without a look at any further pivot
   Quick : ℕ → ℕ → Reading
+  -- the JSON document of a table up to a bound, with so many workers
+  Json : Kind → ℕ → ℕ → Reading
+  -- whether the values of the source's document are a solution
+  Verify : Reading
   Refused : ℕ → Reading
 
 -- words, each with its number, and the number that a missing word has
@@ -95,11 +99,25 @@ read_brackets = ends Brackets
 abbrev pub read_quick : Numbered → Reading
 read_quick = reads long_number λ X. reads crew_number λ n. ends (Quick X n)
 
+-- json KIND X WORKERS
+abbrev pub read_json : Numbered → Reading
+read_json = reads kind_of_word λ kind. reads long_number λ X. reads crew_number λ n. ends (Json kind X n)
+
+-- verify
+abbrev pub read_verify : Numbered → Reading
+read_verify = ends Verify
+
+-- what a command asks for with the words behind it
+unfoldable pub read_behind : List ℕ → Numbered → Reading
+read_behind w s =
+    cond (bytes_eq w (codes "curve")) (read_curve s)
+    (cond (bytes_eq w (codes "curve-relations")) (read_curve_relations s)
+    (cond (bytes_eq w (codes "brackets")) (read_brackets s)
+    (cond (bytes_eq w (codes "quick")) (read_quick s)
+    (cond (bytes_eq w (codes "json")) (read_json s)
+    (cond (bytes_eq w (codes "verify")) (read_verify s) (Refused 1))))))
+
 -- what the words ask for
 unfoldable pub reading_of : List (List ℕ) → Reading
 reading_of [] = Refused 1
-reading_of (w ∷ ws) =
-    cond (bytes_eq w (codes "curve")) (read_curve (numbered 2 ws))
-    (cond (bytes_eq w (codes "curve-relations")) (read_curve_relations (numbered 2 ws))
-    (cond (bytes_eq w (codes "brackets")) (read_brackets (numbered 2 ws))
-    (cond (bytes_eq w (codes "quick")) (read_quick (numbered 2 ws)) (Refused 1))))
+reading_of (w ∷ ws) = read_behind w (numbered 2 ws)

@@ -1,4 +1,5 @@
 use crate::numbers::CurveNumbers;
+use command_words::Kind;
 
 /// What the words ask for.
 #[derive(Drop)]
@@ -21,6 +22,14 @@ pub enum MoreAsked {
         bound: u32,
         workers: u8,
     },
+    /// `json KIND X WORKERS`: the JSON document of a table, made with so many workers.
+    Json {
+        kind: Kind,
+        bound: u32,
+        workers: u8,
+    },
+    /// `verify`: whether the values of the JSON document of the source are a solution.
+    Verify,
     /// How many words stand before the first that breaks a rule.
     Refused {
         before: usize,

@@ -15,4 +15,5 @@ mod words;
 pub use asked::MoreAsked;
 pub use laws::first_refused_word;
 pub use numbers::CurveNumbers;
+pub use places::{Left, next_long, next_short, next_word};
 pub use words::read_more_words;

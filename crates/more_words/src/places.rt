@@ -1,10 +1,11 @@
 ghost use Rattle.std.specs.Prelude.{◌≡◌, ◌+◌, ◌≤◌, ◌<◌, ◌^◌, length, IfOk};
-ghost use Rattle.command_words.specs.Words.{long_number, short_number};
+ghost use Rattle.command_words.specs.Asked.{kind_of};
+ghost use Rattle.command_words.specs.Words.{kind_of_word, long_number, short_number};
 ghost use Rattle.more_words.specs.MoreWords.{ended, next_read, values};
 ghost use Rattle.more_words.specs.Asked.{numbered_of, taken, told, whole, IsLeft};
 
 use crate::numbers::CurveNumbers;
-use command_words::{read_long, read_short};
+use command_words::{Kind, read_kind, read_long, read_short};
 use tensor_text::read_value;
 
 /// The words that are left, and how many stand before them.
@@ -15,7 +16,7 @@ pub struct Left<'a> {
 }
 
 /// The next word, and the words behind it; or how many words stand before the one that is missing.
-pub(crate) fn next_word(left: Left<'_>) -> Result<(&str, Left<'_>), usize>
+pub fn next_word(left: Left<'_>) -> Result<(&str, Left<'_>), usize>
     requires { IsLeft left }
     ensures told { told (λ w. w.now) result ≡ numbered_of left.entry }
     ensures before { IfOk result (λ x. x.1.before ≡ left.entry.before + 1) }
@@ -29,8 +30,18 @@ pub(crate) fn next_word(left: Left<'_>) -> Result<(&str, Left<'_>), usize>
     Ok((word.as_str(), Left { before, words }))
 }
 
+/// The next word as a KIND, and the words behind it.
+pub(crate) fn next_kind(left: Left<'_>) -> Result<(Kind, Left<'_>), usize>
+    requires { IsLeft left }
+    ensures taken { taken kind_of result ≡ next_read kind_of_word (numbered_of left.entry) }
+    ensures left { IfOk result (λ x. IsLeft x.1) }
+{
+    let (word, behind) = next_word(left)?;
+    Ok((read_kind(word).ok_or(left.before)?, behind))
+}
+
 /// The next word as a number of 1 to 9 digits, and the words behind it.
-pub(crate) fn next_long(left: Left<'_>) -> Result<(u32, Left<'_>), usize>
+pub fn next_long(left: Left<'_>) -> Result<(u32, Left<'_>), usize>
     requires { IsLeft left }
     ensures taken { taken (λ n. n) result ≡ next_read long_number (numbered_of left.entry) }
     ensures left { IfOk result (λ x. IsLeft x.1) }
@@ -41,7 +52,7 @@ pub(crate) fn next_long(left: Left<'_>) -> Result<(u32, Left<'_>), usize>
 }
 
 /// The next word as a number of 1 to 3 digits from `least` to `most`, and the words behind it.
-pub(crate) fn next_short(left: Left<'_>, least: u8, most: u8) -> Result<(u8, Left<'_>), usize>
+pub fn next_short(left: Left<'_>, least: u8, most: u8) -> Result<(u8, Left<'_>), usize>
     requires { IsLeft left }
     ensures taken { taken (λ n. n) result ≡ next_read (short_number least most) (numbered_of left.entry) }
     ensures left { IfOk result (λ x. IsLeft x.1) }

@@ -1,4 +1,6 @@
 use crate::{CurveNumbers, MoreAsked, read_more_words};
+use airy_math::Family;
+use command_words::Kind;
 use std::alloc::{AllocError, Global};
 use std::test::Fail;
 
@@ -32,12 +34,20 @@ fn are_refused(alloc: Global, rows: &[Row]) -> Result<bool, AllocError> {
     Ok(true)
 }
 
-const LINES: [Row; 43] = [
+const LINES: [Row; 52] = [
     (1, &[]),
     (1, &["frob"]),
     (1, &["table", "wk", "1"]),
-    (1, &["json", "wk", "1", "0"]),
-    (1, &["verify"]),
+    (1, &["Verify"]),
+    (1, &["json-", "wk", "1", "0"]),
+    (2, &["json"]),
+    (2, &["json", "text", "1", "0"]),
+    (2, &["json", "--", "1", "0"]),
+    (3, &["json", "wk", "1234567890", "0"]),
+    (4, &["json", "bgw", "1"]),
+    (4, &["json", "wp", "1", "17"]),
+    (5, &["json", "-", "1", "0", "0"]),
+    (2, &["verify", "-"]),
     (1, &["--", "brackets"]),
     (1, &["Curve", "1", "0"]),
     (1, &["curve-relation", "1"]),
@@ -179,6 +189,7 @@ const LINES: [Row; 43] = [
     ),
     (0, &["brackets"]),
     (0, &["quick", "25", "000"]),
+    (0, &["verify"]),
 ];
 
 #[test]
@@ -217,6 +228,30 @@ fn is_quick(words: &[String]) -> bool {
         MoreAsked::Quick { bound, workers } => bound == 11 && workers == 16,
         _ => false,
     }
+}
+
+fn is_document(words: &[String], of: Kind) -> bool {
+    match read_more_words(words) {
+        MoreAsked::Json {
+            kind,
+            bound,
+            workers,
+        } => kind == of && bound == 12 && workers == 3,
+        _ => false,
+    }
+}
+
+#[test]
+fn documents_asked_for(rt: HostRuntime) -> Result<(), Fail> {
+    let family = words_of(rt.alloc(), &["json", "bgw", "12", "03"])?;
+    let text = words_of(rt.alloc(), &["json", "-", "012", "3"])?;
+    let verify = words_of(rt.alloc(), &["verify"])?;
+    assert!(rt;
+        is_document(&family, Kind::Named(Family::Bgw))
+            && is_document(&text, Kind::Text)
+            && matches!(read_more_words(&verify), MoreAsked::Verify)
+    );
+    Ok(())
 }
 
 #[test]

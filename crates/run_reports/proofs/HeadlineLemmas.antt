@@ -16,7 +16,7 @@ use Rattle.amp_terms.specs.Outcomes.{outcomes}
 use Rattle.amp_terms.specs.Tables.{full_table, value_of}
 use Rattle.series_law.specs.Jobs.{JobUniquenessLaw, JobCheckedLaw}
 use Rattle.series_law.specs.Pivots.{Shown, series_with}
-use Rattle.series_law.proofs.TableRanks.{length-outcomes}
+use Rattle.amp_terms.proofs.OutcomeLemmas.{length-outcomes}
 use Rattle.run_reports.specs.Tables.{row_text}
 use Rattle.run_reports.specs.Structures.{has_letter, whole_table}
 use Rattle.run_reports.specs.Headline.{Headline, IsLine, ShowsNumber}

@@ -1,4 +1,3 @@
-pub mod LimitLemmas
 pub mod RowLemmas
 pub mod ReportLemmas
 pub mod StoredLemmas
@@ -9,3 +8,8 @@ pub mod RelationLemmas
 pub mod TextLemmas
 pub mod StatusLemmas
 pub mod SourceLemmas
+pub mod AnswerLemmas
+pub mod CauseLemmas
+pub mod StructureLemmas
+pub mod StepLaw
+pub mod TableHeadline

@@ -15,7 +15,7 @@ use Rattle.amp_terms.specs.Tables.{value_of, value_of_cell}
 use Rattle.series_law.specs.Check.{Verdict, Solution, NotValue, Orders, check, check_keys, check_values}
 use Rattle.series_law.specs.First.{IsFirst}
 use Rattle.series_law.proofs.FirstLaw.{first_finding}
-use Rattle.series_law.proofs.TableRanks.{length-outcomes}
+use Rattle.amp_terms.proofs.OutcomeLemmas.{length-outcomes}
 use Rattle.run_reports.specs.Tables.{row_text, rows_text, verdict_of}
 
 abbrev pub lines_of : Bool → Shape → List Key → List Outcome → List (List ℕ)

@@ -1,9 +1,12 @@
 -- The statuses of the reports that a job leads to where no end fails and memory is not wanting.
-use Rattle.std.proofs.Common.{◌≡◌, ◌≢◌, ◌⊎◌, inl, inr, ℕ, ◌<◌, ◌≤◌, arith, refl, ap, length}
+use Rattle.std.proofs.Common.{◌≡◌, ◌≢◌, ◌⊎◌, inl, inr, ℕ, ◌<◌, ◌≤◌, arith, refl, sym, subst, ap, length}
 use Rattle.std.specs.Prelude.{Option, Some, None, Bool, true, false, cond, List, nat_le}
 use Rattle.airy_math.specs.Planned.{planned}
 use Rattle.airy_math.specs.Tensors.{Tensors}
-use Rattle.amp_plan.specs.Limits.{Limit, Within, PassesBound, PassesCells, PassesNeeds}
+use Rattle.airy_math.specs.Jobs.{Structure, planned_tensors}
+use Rattle.amp_plan.specs.Limits.{Limit, Within, PassesBound, PassesCells, PassesNeeds, limit}
+use Rattle.run_reports.specs.Structures.{has_letter}
+use Rattle.run_reports.specs.StructureTables.{making_over, table_report}
 use Rattle.amp_terms.specs.Tables.{full_table}
 use Rattle.series_law.specs.Check as check
 use Rattle.sparse_tensor.specs.Entries.{Entries, looked_up}
@@ -43,6 +46,11 @@ plain_ample {r} plain = by plain.is
 
 pub other_wanting : IsOther out_of_memory
 other_wanting = (λ e. omega arith, λ e. omega arith)
+
+-- of a report that is the whole one, or, where something else holds, says that memory is wanting
+pub other_said : {A : Type 0} {report whole : Report} → IsPlain whole → (report ≡ whole) ⊎ (A × (report ≡ out_of_memory)) → IsOther report
+other_said plain (inl e) = subst IsOther (sym e) (plain_other plain)
+other_said plain (inr e) = subst IsOther (sym e.1) other_wanting
 
 -- those of the relations
 pub plain_closed : IsPlain closed
@@ -99,6 +107,28 @@ plain_cells letter T X = by (verdict_of T X)
     by (check.NotValue r) = record { is = inr (omega arith, omega arith) }
     by (check.Overflow key i) = record { is = inr (omega arith, omega arith) }
     by (check.Orders key i a j b) = record { is = inr (omega arith, omega arith) }
+
+-- the report of each table
+pub plain_table : (s : Structure) (X : ℕ) → IsPlain (table_report s X)
+unfolding table_report making_report cells_report plan_report checked_report
+plain_table s X = by (is_bound X) (making_over s X) (limit T X) (verdict_of T X)
+  where
+    T : Tensors
+    T = planned_tensors s X
+
+    cells : check.Verdict → Report
+    cells v = checked_report (has_letter s) T.shape (planned T X) (full_table T X) v
+
+    by : (b : Bool) (o : Option ℕ) (l : Limit) (v : check.Verdict) → IsPlain (cond b (making_report o (plan_report X l (cells v))) (bound_refused X))
+    by false o l v = record { is = inr (omega arith, omega arith) }
+    by true (Some k) l v = record { is = inr (omega arith, omega arith) }
+    by true None Within check.Solution = record { is = inl refl }
+    by true None Within (check.NotValue r) = record { is = inr (omega arith, omega arith) }
+    by true None Within (check.Overflow key i) = record { is = inr (omega arith, omega arith) }
+    by true None Within (check.Orders key i a j b) = record { is = inr (omega arith, omega arith) }
+    by true None PassesBound v = record { is = inr (omega arith, omega arith) }
+    by true None (PassesCells level) v = record { is = inr (omega arith, omega arith) }
+    by true None (PassesNeeds key) v = record { is = inr (omega arith, omega arith) }
 
 -- ---- what follows
 

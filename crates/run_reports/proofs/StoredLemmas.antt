@@ -16,7 +16,7 @@ use Rattle.series_law.specs.SameTables.{SameTablesLaw}
 use Rattle.sparse_tensor.specs.Entries.{Entries, looked_up}
 use Rattle.run_reports.specs.Report.{Report}
 use Rattle.run_reports.specs.Tables.{checked_report, verdict_of, cells_report, plan_report, stored_report}
-use Rattle.run_reports.proofs.LimitLemmas.{limit_same}
+use Rattle.amp_plan.proofs.SameLimits.{limit_same}
 
 same_parts : (l m : Bool) (s t : Shape) (ks js : List Key) (os ps : List Outcome) (v w : Verdict) → l ≡ m → s ≡ t → ks ≡ js → os ≡ ps → v ≡ w
     → checked_report l s ks (map Some os) v ≡ checked_report m t js (map Some ps) w

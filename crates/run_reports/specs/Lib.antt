@@ -7,5 +7,7 @@ pub mod Forms
 pub mod Leads
 pub mod Ends
 pub mod Runs
+pub mod Promises
 pub mod Structures
+pub mod StructureTables
 pub mod Headline

@@ -1,12 +1,14 @@
 //! What a run answers and writes: statuses and the lines of refusals, tables that are filled, checked and printed, and their summaries.
 #![tactic(auto)]
 
+mod families;
 mod pivots;
 mod relations;
 mod report;
 mod tables;
 mod texts;
 
+pub use families::{refuse_making, tensors_of};
 pub use pivots::{refuse_orders, refuse_pivot};
 pub use relations::{say_relations, say_verdict};
 pub use report::{

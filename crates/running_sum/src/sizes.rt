@@ -1,4 +1,4 @@
-ghost use Rattle.std.specs.Prelude.{◌≡◌, ◌<◌, ◌≤◌, ◌^◌, ◌*◌, ◌*ℤ◌, ◌+ℤ◌, pos, unsigned_abs, IfSome, IsTrue};
+ghost use Rattle.std.specs.Prelude.{◌≡◌, ◌<◌, ◌≤◌, ◌^◌, ◌*◌, ◌*ℤ◌, ◌+ℤ◌, pos, unsigned_abs, IfSome, true};
 ghost use Rattle.running_sum.specs.Sizes.{IsProduct, IsSum, IsCommon};
 
 use frac128::Frac;
@@ -12,7 +12,8 @@ pub(crate) fn bits(n: u128) -> u32
     128 - n.leading_zeros()
 }
 
-/// The number as a word, where its size is below 2^63.
+/// The number as a word, where its size is below 2^63. Of a test for the range of a word the compiler would know that the word is the
+/// number, and multiply by both halves of it.
 #[inline(always)]
 pub(crate) fn word(n: i128) -> Option<i64>
     ensures { IfSome result (λ w. (w ≡ n) × (unsigned_abs n < 2 ^ 63)) }
@@ -22,6 +23,15 @@ pub(crate) fn word(n: i128) -> Option<i64>
     } else {
         None
     }
+}
+
+/// Whether o 2^twos is seen to be in range: by a look at the high half of o, and by its length where that doesn't tell.
+#[inline(always)]
+pub(crate) fn is_short(o: u128, twos: u32) -> bool
+    requires { twos < 127 }
+    ensures { result ≡ true → o * 2 ^ twos < 2 ^ 127 }
+{
+    o >> 64 == 0 && twos < 64 || bits(o) + twos <= 127
 }
 
 /// The product, where the lengths of the numbers say that it is in range.

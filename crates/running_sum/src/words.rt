@@ -2,7 +2,7 @@ ghost use Rattle.std.specs.Prelude.{◌≡◌, ◌<◌, ◌^◌, Some, IfSome};
 ghost use Rattle.airy_math.specs.Rational.{ℚ, whole};
 ghost use Rattle.airy_math.specs.Obtained.{◌⊛◌};
 
-use crate::sizes::{bits, word};
+use crate::sizes::{is_short, word};
 use crate::unreduced::Unreduced;
 use frac128::Frac;
 use std::marker::Model;
@@ -99,7 +99,7 @@ impl Word {
     {
         let odd = self.odd as u128 * o.odd as u128;
         let twos = self.twos + o.twos;
-        if bits(odd) + twos > 127 {
+        if !is_short(odd, twos) {
             return None;
         }
         Some(Unreduced {

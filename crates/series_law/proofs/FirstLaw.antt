@@ -102,7 +102,7 @@ runs_has i (x ∷ xs) h = into_has i x (runs xs) (by (eqb i x) refl h (runs_has 
     by true e h r = inl (eqb-true i x e)
     by false e h r = inr (r h)
 
-no_times : (i : ℕ) → 0 < times i [] → ⊥
+pub no_times : (i : ℕ) → 0 < times i [] → ⊥
 unfolding times
 no_times i h = omega arith
 

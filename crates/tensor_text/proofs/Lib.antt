@@ -13,3 +13,5 @@ pub mod BackValues
 pub mod BackLines
 pub mod BackEntries
 pub mod BackLaw
+pub mod PlainLemmas
+pub mod AsciiLaw

@@ -67,17 +67,17 @@ Says (Ok says.Entry) old new given = given ≡ Stored new
 Says (Ok says.End) old new given = (given ≡ Ended) × (new ≡ old)
 Says (Err e) old new given = IsRefusal e given
 
--- ---- the bytes of a source up to its end, before they are read as a text
+-- ---- the bytes of a source up to its end, where they are at most this many
 
-abbrev pub BytesTell : {T : Type 0} → (T → List ℕ) → Result T TextErr → List ℕ → Option (List ℕ) → Type 0
-BytesTell bytes (Ok v) text new = (bytes v ≡ text) × IsAtEnd new × (length text ≤ 1048576)
-BytesTell bytes (Err (texts.Line n kind)) text new = ⊥
-BytesTell bytes (Err texts.TooLong) text new = length text ≡ 1048577
-BytesTell bytes (Err texts.ReadFault) text new = Unit {0}
-BytesTell bytes (Err texts.NoMemory) text new = Unit {0}
+abbrev pub BytesTell : {T : Type 0} → (T → List ℕ) → ℕ → Result T TextErr → List ℕ → Option (List ℕ) → Type 0
+BytesTell bytes most (Ok v) text new = (bytes v ≡ text) × IsAtEnd new × (length text ≤ most)
+BytesTell bytes most (Err (texts.Line n kind)) text new = ⊥
+BytesTell bytes most (Err texts.TooLong) text new = length text ≡ most + 1
+BytesTell bytes most (Err texts.ReadFault) text new = Unit {0}
+BytesTell bytes most (Err texts.NoMemory) text new = Unit {0}
 
-pub record BytesRead {T : Type 0} (bytes : T → List ℕ) (old new : Option (List ℕ)) (result : Result T TextErr) : Type 0 where
+pub record BytesRead {T : Type 0} (bytes : T → List ℕ) (limit : ℕ) (old new : Option (List ℕ)) (result : Result T TextErr) : Type 0 where
   pub text : List ℕ
   pub consumed : Consumes old new text
-  pub most : length text ≤ 1048577
-  pub tells : BytesTell bytes result text new
+  pub most : length text ≤ limit + 1
+  pub tells : BytesTell bytes limit result text new

@@ -13,8 +13,9 @@ mod values;
 mod words;
 mod writing;
 
-pub use reading::read_tensors;
+pub use reading::{read_bytes, read_tensors};
 pub use refusals::{LineKind, TextErr};
+pub use text::read_text;
 pub use values::read_value;
 pub use writing::write_tensors;
 

@@ -1,4 +1,4 @@
-ghost use Rattle.std.specs.Prelude.{◌≡◌};
+ghost use Rattle.std.specs.Prelude.{◌≡◌, ◌<◌, ◌^◌};
 ghost use Rattle.tensor_text.specs.Answers.{Reads, HasReadCause};
 ghost use Rattle.tensor_text.specs.Steps.{BytesRead};
 
@@ -22,20 +22,24 @@ pub fn read_tensors<S: Source>(alloc: Global, src: &mut S) -> Result<Tensors, Te
     ensures read { Reads (S.state src.old) (S.state src.new) result }
     ensures cause { HasReadCause (S.state src.old).faults (S.state src.new).faults result }
 {
-    let text = read_bytes(alloc, src)?;
+    let text = read_bytes(alloc, src, MOST_BYTES)?;
     read_text(alloc, text.as_slice())
 }
 
-/// The bytes of a source up to its end.
-fn read_bytes<S: Source>(alloc: Global, src: &mut S) -> Result<Vec<u8>, TextErr>
-    ensures read { BytesRead (λ v. v.items) (S.state src.old).left (S.state src.new).left result }
+/// The bytes of a source up to its end, where they are at most `most`, which is below 2^63.
+///
+/// `ReadFault` comes only where the source's count of faults rose, and every other answer leaves that count. `TooLong`
+/// comes where the source gives a byte beyond `most`, and reading stops at that byte. It never answers `Line`.
+pub fn read_bytes<S: Source>(alloc: Global, src: &mut S, most: usize) -> Result<Vec<u8>, TextErr>
+    requires { most < 2 ^ 63 }
+    ensures read { BytesRead (λ v. v.items) most (S.state src.old).left (S.state src.new).left result }
     ensures cause { HasReadCause (S.state src.old).faults (S.state src.new).faults result }
 {
     let mut room = [0u8; 4096];
     let mut text = Vec::new(alloc);
-    while text.len() <= MOST_BYTES {
-        let most = room.len().min(MOST_BYTES + 1 - text.len());
-        let Ok(count) = src.read(&mut room[..most]) else {
+    while text.len() <= most {
+        let wanted = room.len().min(most + 1 - text.len());
+        let Ok(count) = src.read(&mut room[..wanted]) else {
             return Err(TextErr::ReadFault);
         };
         if count == 0 {

@@ -1,4 +1,4 @@
-use crate::{LineKind, TextErr, read_tensors, read_value, write_tensors};
+use crate::{LineKind, TextErr, read_bytes, read_tensors, read_text, read_value, write_tensors};
 use airy_io::{Failed, MemSink, MemSource, SlowSource, SteadySource};
 use sparse_tensor::{Law, Shape, Tensors};
 use std::alloc::{AllocError, Global};
@@ -472,5 +472,53 @@ fn laws_are_read_and_written_again(rt: HostRuntime) -> Result<(), Fail> {
 fn every_shape_is_written_without_one(rt: HostRuntime) -> Result<(), Fail> {
     let text = b"airy 2\ndim 1\nshape all\nA 0 0 0 1\nB 0 0 0 1\nC 0 0 0 1\nD 0 1/8\nend\n";
     assert!(rt; is_shaped(rt.alloc(), text.as_slice(), Shape::All, false, ONES)?);
+    Ok(())
+}
+
+/// ONES behind a line of 1,048,577 spaces.
+fn long_text(alloc: Global) -> Result<Vec<u8>, AllocError> {
+    let mut text = vec![in alloc; b' '; 1_048_577]?;
+    text.push(b'\n')?;
+    text.extend_from_slice(ONES)?;
+    Ok(text)
+}
+
+fn is_long_text_read(alloc: Global) -> Result<bool, Fail> {
+    let text = long_text(alloc)?;
+    if text.len() > 2_000_000 {
+        return Ok(false);
+    }
+    Ok(are_ones(&read_text(alloc, text.as_slice())?))
+}
+
+fn is_empty_text_refused(alloc: Global) -> bool {
+    let kind = LineKind::Header;
+    read_text(alloc, b"").err() == Some(TextErr::Line { line: 1, kind })
+}
+
+#[test]
+fn texts_in_memory(rt: HostRuntime) -> Result<(), Fail> {
+    assert!(rt; is_empty_text_refused(rt.alloc()) && is_long_text_read(rt.alloc())?);
+    Ok(())
+}
+
+/// How many bytes are read of a source of five, where at most so many may come.
+fn bytes_read(alloc: Global, most: usize) -> Result<usize, Fail> {
+    let mut source = steady(alloc, b"12345")?;
+    if most > 100 {
+        return Ok(0);
+    }
+    Ok(read_bytes(alloc, &mut source, most)?.len())
+}
+
+fn is_too_long(alloc: Global, most: usize) -> Result<bool, AllocError> {
+    let mut source = steady(alloc, b"12345")?;
+    Ok(most <= 100 && read_bytes(alloc, &mut source, most).err() == Some(TextErr::TooLong))
+}
+
+#[test]
+fn bytes_up_to_a_limit(rt: HostRuntime) -> Result<(), Fail> {
+    let alloc = rt.alloc();
+    assert!(rt; bytes_read(alloc, 6)? == 5 && bytes_read(alloc, 5)? == 5 && is_too_long(alloc, 4)?);
     Ok(())
 }

@@ -13,9 +13,12 @@ use crate::words::{read_dim_line, read_header};
 use sparse_tensor::{Shape, Tensors};
 use std::alloc::Global;
 
-/// The tensors that the grammar gives to a text.
+/// The tensors that the grammar gives to a text of fewer than 2^31 bytes, with their shape and letter.
+///
+/// `Line` comes exactly where the grammar refuses the text, with its first refused line and the first check that fails there;
+/// `NoMemory` for want of memory. It answers neither `ReadFault` nor `TooLong`.
 #[tactic(auto, unfolding(crate::specs::Grammar::reading_of, crate::specs::Grammar::header_from, crate::specs::Grammar::header_read))]
-pub(crate) fn read_text(alloc: Global, text: &[u8]) -> Result<Tensors, TextErr>
+pub fn read_text(alloc: Global, text: &[u8]) -> Result<Tensors, TextErr>
     requires { length text.now < 2 ^ 31 }
     ensures { Gives result (reading_of text.now) }
 {

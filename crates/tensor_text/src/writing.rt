@@ -1,4 +1,4 @@
-ghost use Rattle.std.specs.Prelude.{◌≡◌, ◌≤◌, ◌<◌, ◌+◌, ◌++◌, codes, length};
+ghost use Rattle.std.specs.Prelude.{◌≡◌, ◌≤◌, ◌<◌, ◌+◌, ◌++◌, codes, length, IsUtf8};
 ghost use Rattle.airy_math.specs.Rational.{ℚ};
 ghost use Rattle.std.specs.Fmt.{signed_decimal};
 ghost use Rattle.frac128.specs.Fraction.{fraction_text};
@@ -253,11 +253,12 @@ fn write_text<W: Sink>(t: &Tensors, out: &mut W) -> Result<(), Failed>
 /// for `airy 2` the shape line with the law's two numbers and the word `letter` where there is one, the entries of A with j
 /// at most k by (i,j,k) ascending, those of B, those of C with j at most k, those of D by i ascending, and `end`, each on a
 /// line of its own. Dim is at most 32. It takes no memory. After `Failed` a prefix was written. The grammar reads the
-/// canonical text back as the same tensors, with their shape and letter.
+/// canonical text back as the same tensors, with their shape and letter. It is ASCII, and so UTF-8.
 pub fn write_tensors<W: Sink>(t: &Tensors, out: &mut W) -> Result<(), Failed>
     requires { t.now.dim ≤ 32 }
     ensures written { Writes (canonical_text t.now) (W.state out.old) (W.state out.new) result }
     ensures back { reading_of (canonical_text t.now) ≡ Read t.now }
+    ensures utf8 { IsUtf8 (canonical_text t.now) }
 {
     t.soundness_fact();
     write_text(t, out)

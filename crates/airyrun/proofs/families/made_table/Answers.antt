@@ -1,5 +1,5 @@
-use Rattle.airyrun.specs.Tables.{structure_of}
-use Rattle.airyrun.proofs.ReportLemmas.{stood_report, error_ends}
+use Rattle.run_reports.specs.StructureTables.{structure_of}
+use Rattle.run_reports.proofs.StructureLemmas.{stood_report, error_ends}
 use Rattle.airyrun.proofs.families.made_table.Goals as goal
 
 pub returns-in-Ok : goal.returns-in-Ok

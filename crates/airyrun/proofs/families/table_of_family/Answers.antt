@@ -1,6 +1,6 @@
 use Rattle.std.proofs.Common.{◌≡◌, rules, inl, inr, false}
-use Rattle.airyrun.specs.Tables.{is_bound, structure_of}
-use Rattle.airyrun.proofs.ReportLemmas.{refused_bound}
+use Rattle.run_reports.specs.StructureTables.{is_bound, structure_of}
+use Rattle.run_reports.proofs.StructureLemmas.{refused_bound}
 use Rattle.airyrun.proofs.families.table_of_family.Goals as goal
 
 pub returns-then-is_bound : goal.returns-then-is_bound

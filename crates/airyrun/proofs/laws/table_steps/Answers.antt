@@ -1,4 +1,4 @@
-use Rattle.airyrun.proofs.StepLaw.{table_steps}
+use Rattle.run_reports.proofs.StepLaw.{table_steps}
 use Rattle.airyrun.proofs.laws.table_steps.Goals as goal
 
 pub returns : goal.returns

@@ -1,7 +1,7 @@
 use Rattle.std.proofs.Common.{◌≡◌, rules, true, false, subst}
 use Rattle.airy_io.specs.Causes.{Taking}
 use Rattle.airyrun.specs.Numbers.{IsQuotient, euler_of}
-use Rattle.airyrun.specs.Tables.{is_bound, structure_of}
+use Rattle.run_reports.specs.StructureTables.{is_bound, structure_of}
 use Rattle.run_reports.specs.Ends.{EndsBy}
 use Rattle.airyrun.specs.Valued.{IsValued}
 use Rattle.airyrun.proofs.NumberLemmas.{beyond_number, made_number, unmade_number}

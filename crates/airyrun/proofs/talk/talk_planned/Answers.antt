@@ -2,7 +2,8 @@ use Rattle.std.proofs.Common.{sym, subst}
 use Rattle.amp_plan.specs.Plans.{tensors_of}
 use Rattle.ask_seats.specs.Asks.{Fails}
 use Rattle.ask_seats.specs.Sessions.{Session}
-use Rattle.airyrun.specs.Sessions.{EndsReplies, answered}
+use Rattle.session_law.specs.Sessions.{answered}
+use Rattle.airyrun.specs.Sessions.{EndsReplies}
 use Rattle.airyrun.proofs.TalkLemmas.{spoken-ends, cut-ends, memory-ends}
 use Rattle.airyrun.proofs.talk.talk_planned.Goals as goal
 use Rattle.airyrun.proofs.talk.talk_planned.Goals.{in-Ok, in-Err-WriteFault, in-Err-NoMemory}

@@ -4,7 +4,8 @@ use Rattle.command_words.specs.Lines.{FinishesOnce, Rises}
 use Rattle.command_words.specs.declared.line.Line.{Line}
 use Rattle.sparse_tensor.specs.Entries.{looked_up}
 use Rattle.run_reports.specs.Report.{out_of_memory}
-use Rattle.airyrun.specs.Sessions.{EndsReplies, stored_session}
+use Rattle.session_law.specs.Sessions.{stored_session}
+use Rattle.airyrun.specs.Sessions.{EndsReplies}
 use Rattle.command_words.specs.Options.{lines_of}
 use Rattle.command_words.specs.Asked.{parted_of}
 use Rattle.airyrun.proofs.TalkLemmas.{other-ends}

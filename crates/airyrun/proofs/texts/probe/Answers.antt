@@ -1,6 +1,6 @@
 use Rattle.std.proofs.Common.{◌≡◌, refl, rules, true, false}
 use Rattle.run_reports.specs.Report.{bound_refused}
-use Rattle.airyrun.specs.Tables.{is_bound}
+use Rattle.run_reports.specs.StructureTables.{is_bound}
 use Rattle.run_reports.specs.Leads.{beyond}
 use Rattle.airyrun.specs.Run.{LeadsToProbe}
 use Rattle.run_reports.proofs.TextLemmas.{read_ends, refusal_ends, within_bound}

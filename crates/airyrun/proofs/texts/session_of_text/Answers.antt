@@ -1,6 +1,6 @@
 use Rattle.std.proofs.Common.{◌≡◌, false, refl, subst}
 use Rattle.run_reports.specs.Report.{Ends, bound_refused}
-use Rattle.airyrun.specs.Tables.{is_bound}
+use Rattle.run_reports.specs.StructureTables.{is_bound}
 use Rattle.run_reports.specs.Leads.{beyond}
 use Rattle.command_words.specs.Bounds.{reach}
 use Rattle.command_words.specs.Options.{lines_of}

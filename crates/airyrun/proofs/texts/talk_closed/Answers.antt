@@ -7,7 +7,8 @@ use Rattle.command_words.specs.Bounds.{reach}
 use Rattle.command_words.specs.Options.{lines_of}
 use Rattle.command_words.specs.Asked.{parted_of}
 use Rattle.run_reports.proofs.TextLemmas.{are_closed, text_sound}
-use Rattle.airyrun.proofs.TalkLemmas.{stored-leads, closed-leads, fails-leads, text-planned, text-made}
+use Rattle.session_law.proofs.SessionLemmas.{text-planned, text-made}
+use Rattle.airyrun.proofs.TalkLemmas.{stored-leads, closed-leads, fails-leads}
 use Rattle.airyrun.proofs.texts.talk_closed.Goals as goal
 
 pub returns-in-Closed : goal.returns-in-Closed

@@ -1,4 +1,4 @@
-use Rattle.airyrun.specs.Tables.{structure_of}
+use Rattle.run_reports.specs.StructureTables.{structure_of}
 use Rattle.airyrun.proofs.ValuedLemmas.{if_ok, if_err, is_valued, valued_refuses, making_refuses}
 use Rattle.airyrun.proofs.valued.valued_table.Goals as goal
 

@@ -6,7 +6,7 @@ use Rattle.airy_math.specs.Jobs.{Wp}
 use Rattle.correlators.specs.Volumes.{counted}
 use Rattle.run_reports.specs.Ends.{EndsByOrWants}
 use Rattle.airyrun.specs.Numbers.{IsQuotients, takes_volume}
-use Rattle.airyrun.specs.Tables.{is_bound, structure_of}
+use Rattle.run_reports.specs.StructureTables.{is_bound, structure_of}
 use Rattle.airyrun.specs.Valued.{IsValued}
 use Rattle.airyrun.proofs.VolumeLemmas.{beyond_volume, made_volume, many_terms, unmade_volume}
 use Rattle.airyrun.proofs.volumes.volume_of_pair.Goals as goal

@@ -5,6 +5,7 @@ use Rattle.amp_plan.specs.Plans.{tensors_of}
 use Rattle.cell_words.specs.Countdown.{by_sight}
 use Rattle.cell_words.specs.Resuming.{CanResume}
 use Rattle.ask_seats.specs.Sessions.{bound_after}
+use Rattle.ask_seats.proofs.FrontLemmas.{leads-begun}
 use Rattle.ask_seats.proofs.ReplyLemmas.{grows-up}
 use Rattle.ask_seats.proofs.growth.reopen.Goals as goal
 
@@ -17,3 +18,6 @@ resume-requires-clause-can c =
 pub returns-clause-knows : goal.returns-clause-knows
 returns-clause-knows c = λ j d l r h.
     by_sight r (ap (has r) ((c.in-Ok.ensures.seats j d (omega (arith, l, c.in-Ok.ensures.len, c.in-Ok.seats.ok.0))).seen ∙ sym c.in-Ok.ensures.carried) ∙ h)
+
+pub returns-clause-leads : goal.returns-clause-leads
+returns-clause-leads c = let e = c.in-Ok.ensures in leads-begun _ _ (c.args.workers + 1) _ (omega arith) e.carried e.seats

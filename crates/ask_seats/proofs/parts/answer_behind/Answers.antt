@@ -4,6 +4,8 @@ use Rattle.cell_words.specs.Deals.{AreAll, receipts_of}
 use Rattle.cell_words.specs.Layout.{cells, outcome_at}
 use Rattle.fill_crew.proofs.NextLemmas.{whole}
 use Rattle.fill_crew.proofs.CrewLemmas.{full_is, last_idle, last_knows, last_again}
+use Rattle.ask_seats.specs.Carrying.{Leads}
+use Rattle.ask_seats.proofs.FrontLemmas.{leads-swept, leads-again, leaves-first}
 use Rattle.ask_seats.proofs.SeatLemmas.{same_back, same_done}
 use Rattle.ask_seats.proofs.parts.answer_behind.Goals as goal
 
@@ -31,3 +33,11 @@ returns-clause-table g c =
     full_is p _ c.close.ensures.len (λ r l. c.close.ensures.table r l ∙ ap (λ ss. cond (has r (receipts_of ss)) (Some (outcome_at p r)) None) c.in-Ok.ensures.items
     ∙ ap (λ t. cond t (Some (outcome_at p r)) None)
     ((last_again b (cells p) c.as_mut_slice.result.now new rest own c.sweep.ensures is mine (same_back b own mine e.standing (last_idle b new rest own c.sweep.ensures.all is).1 e.seat) (same_done b own mine e.standing)).1 r l))
+
+pub returns-clause-first : goal.returns-clause-first
+returns-clause-first g c =
+    let b = c.args.board in let v = c.args.seats in let old = c.as_mut_slice.result.now in let new = c.sweep.new.seats in let rest = c.pop.new.self.items in let own = c.in-Some.seat in let mine = c.answer_known-seat.result.0 in
+    let is : new ≡ rest ++ own ∷ [] = sym (whole v.len new v.items (c.sweep.ensures.len ∙ ap length c.as_mut_slice.ensures.value ∙ sym v.ok.0) (sym v.ok.0)) ∙ c.in-Some.ensures.items in
+    let ranks = b.base.carried.items in
+    let swept = leads-swept b (cells b.base.plan) ranks old new (subst (λ ss. 0 < length ss) (sym c.as_mut_slice.ensures.value) c.requires.seats.seats.some) c.sweep.ensures (subst (Leads ranks) (sym c.as_mut_slice.ensures.value) c.requires.leads) in
+    leaves-first ranks c.push.new.self.items rest mine _ c.in-Ok.ensures.items c.close.ensures.receipts (leads-again ranks new rest own mine is c.answer_known-seat.ensures.standing swept)

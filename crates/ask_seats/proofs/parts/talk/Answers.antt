@@ -5,6 +5,7 @@ use Rattle.amp_plan.specs.Plans.{Planning, tensors_of}
 use Rattle.amp_plan.specs.Needs.{has}
 use Rattle.cell_words.specs.Deals.{AreAll}
 use Rattle.cell_words.specs.Seats.{carried_of}
+use Rattle.ask_seats.specs.Carrying.{Leads}
 use Rattle.ask_seats.specs.Counts.{Knows}
 use Rattle.ask_seats.specs.Sessions.{Stage, finish}
 use Rattle.ask_seats.specs.Asks.{AreAsks, Rises, ends_finished}
@@ -12,6 +13,7 @@ use Rattle.ask_seats.specs.Talks.{AnyOf, Carried, Stands, Wrote, Broke, stage_af
 use Rattle.command_words.specs.declared.line.Line.TheVariants.{Finish}
 use Rattle.fill_crew.specs.Crews.{IsIdle}
 use Rattle.fill_crew.proofs.CrewLemmas.{rest_idle, last_idle}
+use Rattle.ask_seats.proofs.FrontLemmas.{leads-asked, leaves-first}
 use Rattle.ask_seats.proofs.SeatLemmas.{joined_again, last_has, last_known, full_partial, full_carries}
 use Rattle.ask_seats.proofs.SessionLemmas.{stands-map, stands-finish, wrote-map, wrote-both, broke-behind, broke-before, part-rises, rest-asks, ends-asks, split-lines, ok_of, err_of}
 use Rattle.ask_seats.proofs.parts.talk.Goals as goal
@@ -40,7 +42,7 @@ close-requires g c =
     record {
       seats = subst (AreAll b) (sym c.in-Ok.ensures.items)
           (joined_again b crew.items back.items c.in-Some.seat c.of-asker.result.seat c.answer_beside-seats.new.asker.seat c.into_seat.result (subst (AreAll b) c.in-Some.ensures.items c.requires.seats) c.of-asker.ensures.1
-          (omega (arith, e.len, back.ok.0, crew.ok.0)) (λ k d l. e.back k d (omega (arith, l, crew.ok.0))) e.seat e.standing c.into_seat.ensures);
+          (omega (arith, e.len, back.ok.0, crew.ok.0)) (λ k d l. (e.back k d (omega (arith, l, crew.ok.0))).back) e.seat e.standing c.into_seat.ensures);
     }
 
 pub returns-then-at-lines-clause-full : goal.returns-then-at-lines-clause-full
@@ -58,12 +60,26 @@ returns-then-at-lines-clause-written g c = λ stage h f.
     (wrote-map p crew c.args.pace.finished (Knows c.answer_beside-seats.new.asker.seat) (Carried c.close.result.table) stage (take at lines) _ _
     (λ r low k. c.close.ensures.known r (last_known c.push.new.self.items c.answer_beside-seats.result.0.items c.into_seat.result r c.in-Ok.ensures.items (subst (λ s. Knows s r) (sym c.into_seat.ensures) k))) w)
 
+pub returns-then-at-lines-clause-first : goal.returns-then-at-lines-clause-first
+returns-then-at-lines-clause-first g c =
+    let b = c.args.board in let e = c.answer_beside-seats.ensures in let crew = c.pop.new.self in let back = c.answer_beside-seats.result.0 in let ranks = b.base.carried.items in
+    let leads = leads-asked b ranks c.args.seats.items crew.items back.items c.in-Some.seat c.of-asker.result.seat c.answer_beside-seats.new.asker.seat c.into_seat.result c.in-Some.ensures.items c.of-asker.ensures.1
+    (omega (arith, e.len, back.ok.0, crew.ok.0)) (λ k d l. e.back k d (omega (arith, l, crew.ok.0))) e.standing c.into_seat.ensures c.requires.leads in
+    leaves-first ranks c.push.new.self.items back.items c.into_seat.result _ c.in-Ok.ensures.items c.close.ensures.receipts leads
+
 pub answer_behind-requires-clause-seats : goal.answer_behind-requires-clause-seats
 answer_behind-requires-clause-seats g c =
     let b = c.args.board in let e = c.answer_beside-seats.ensures in let crew = c.pop.new.self in let back = c.answer_beside-seats.result.0 in
     subst (AreAll b) (sym c.in-Ok.ensures.items)
     (joined_again b crew.items back.items c.in-Some.seat c.of-asker.result.seat c.answer_beside-seats.new.asker.seat c.into_seat.result (subst (AreAll b) c.in-Some.ensures.items c.requires.seats) c.of-asker.ensures.1
-    (omega (arith, e.len, back.ok.0, crew.ok.0)) (λ k d l. e.back k d (omega (arith, l, crew.ok.0))) e.seat e.standing c.into_seat.ensures)
+    (omega (arith, e.len, back.ok.0, crew.ok.0)) (λ k d l. (e.back k d (omega (arith, l, crew.ok.0))).back) e.seat e.standing c.into_seat.ensures)
+
+pub answer_behind-requires-clause-leads : goal.answer_behind-requires-clause-leads
+answer_behind-requires-clause-leads g c =
+    let b = c.args.board in let e = c.answer_beside-seats.ensures in let crew = c.pop.new.self in let back = c.answer_beside-seats.result.0 in let ranks = b.base.carried.items in
+    let leads = leads-asked b ranks c.args.seats.items crew.items back.items c.in-Some.seat c.of-asker.result.seat c.answer_beside-seats.new.asker.seat c.into_seat.result c.in-Some.ensures.items c.of-asker.ensures.1
+    (omega (arith, e.len, back.ok.0, crew.ok.0)) (λ k d l. e.back k d (omega (arith, l, crew.ok.0))) e.standing c.into_seat.ensures c.requires.leads in
+    subst (Leads ranks) (sym c.in-Ok.ensures.items) leads
 
 pub answer_behind-requires-clause-asks : goal.answer_behind-requires-clause-asks
 answer_behind-requires-clause-asks g c =

@@ -14,6 +14,8 @@ use Rattle.ask_seats.specs.Asks.{CutShort, FinishesOnce, ends_finished, session_
 use Rattle.ask_seats.specs.Talks.{Carried, FallsSilent, GoesOn, IsPart, Paused, Speaks, growth_reply, up_to}
 use Rattle.command_words.specs.declared.line.Line.{Line}
 use Rattle.command_words.specs.declared.line.Line.TheVariants.{Grow}
+use Rattle.ask_seats.specs.Carrying.{KeepsCarried}
+use Rattle.ask_seats.proofs.FrontLemmas.{keeps-grown}
 use Rattle.ask_seats.proofs.ReplyLemmas.{grows-up}
 use Rattle.ask_seats.proofs.SessionLemmas.{goes-above, goes-once, goes-next, next-lines, all-lines, ends-grow, stops-at, paused-next, cut-next, spoken-last, bound-last}
 use Rattle.ask_seats.proofs.sessions.go_on.Goals as goal
@@ -108,10 +110,18 @@ loop-at-preserved g c =
           (subst (λ z. Paused q z crew u.finished u.closed.table (take at lines ++ (Grow Y ∷ part)) old new) (sym same)
           (paused-next q p crew r.finished t (take at lines) Y part (drop n (drop (at + 1) lines)) old mid (i.3 q old h) (omega (arith, above.0)) Knew (λ k s. ap (has k) c.in-Ok.ensures.carried ∙ has_carried t k ∙ s)
           u.finished u.closed.table reply new c.in-Ok.ensures.reply speaks)),
+      λ q old h k.
+          subst (λ ls. KeepsCarried q ls u.closed) (sym next)
+          (keeps-grown q p crew r.finished t (take at lines) part Y old mid c.in-Ok.opened.board.base.carried.items u.closed (i.3 q old h) i.0.partial
+          (subst (λ l. IsPart (take n l)) (rest-slice lines (at + 1)) c.part_end.ensures.part) c.in-Ok.ensures.carried e.first),
     )
 
 pub returns-clause-spoken : goal.returns-clause-spoken
-returns-clause-spoken g c = λ q old h.
+returns-clause-spoken g c = λ q old h k.
     let lines = c.args.lines.now in let at : ℕ = c.loop-at.at in let r = c.loop-at.rest in
-    let last = subst (λ ls. Paused q r.closed.plan c.args.crew r.finished r.closed.table ls old (g.W.Sink.state c.loop-at.out).taken) (take_all at lines (omega (arith, c.loop-at-test.false))) (c.loop-at.invariant.3 q old h) in
-    (last.tensors, bound-last q r.closed.plan c.args.crew r.finished r.closed.table lines old _ last, spoken-last q r.closed.plan c.args.crew r.finished r.closed.table lines old _ last)
+    let last = subst (λ ls. Paused q r.closed.plan c.args.crew r.finished r.closed.table ls old (g.W.Sink.state c.loop-at.out).taken) (take_all at lines (omega (arith, c.loop-at-test.false))) (c.loop-at.invariant.3 q old h) in (
+      last.tensors,
+      bound-last q r.closed.plan c.args.crew r.finished r.closed.table lines old _ last,
+      spoken-last q r.closed.plan c.args.crew r.finished r.closed.table lines old _ last,
+      subst (λ ls. KeepsCarried q ls r.closed) (take_all at lines (omega (arith, c.loop-at-test.false))) (c.loop-at.invariant.4 q old h k),
+    )

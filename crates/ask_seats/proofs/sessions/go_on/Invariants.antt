@@ -1,5 +1,6 @@
 use Rattle.std.proofs.Common.{◌≡◌, ◌-◌, ℕ, List, Option, take, length}
 use Rattle.amp_plan.specs.Plans.{Planning}
+use Rattle.ask_seats.specs.Carrying.{KeepsCarried}
 use Rattle.ask_seats.specs.Talks.{GoesOn, IsLeft, Paused}
 use Rattle.ask_seats.proofs.sessions.go_on.Given as goal
 
@@ -10,6 +11,9 @@ invariant-loop-at g l =
     × ((q : Planning) (old : Option (List ℕ))
     → Paused q l.initial.rest.closed.plan l.crew l.initial.rest.finished l.initial.rest.closed.table (take l.initial.at l.lines) old (g.W.Sink.state l.initial.out).taken
     → Paused q l.rest.closed.plan l.crew l.rest.finished l.rest.closed.table (take l.at l.lines) old (g.W.Sink.state l.out).taken)
+    × ((q : Planning) (old : Option (List ℕ))
+    → Paused q l.initial.rest.closed.plan l.crew l.initial.rest.finished l.initial.rest.closed.table (take l.initial.at l.lines) old (g.W.Sink.state l.initial.out).taken
+    → KeepsCarried q (take l.initial.at l.lines) l.initial.rest.closed → KeepsCarried q (take l.at l.lines) l.rest.closed)
 
 abbrev pub decreases-loop-at : goal.decreases-loop-at
 decreases-loop-at g l = length l.lines - l.at

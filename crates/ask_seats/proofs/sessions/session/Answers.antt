@@ -10,7 +10,11 @@ use Rattle.cell_words.specs.Resuming.{CanResume}
 use Rattle.cell_words.specs.Seats.{carried_of}
 use Rattle.ask_seats.specs.Sessions.{start}
 use Rattle.ask_seats.specs.Asks.{CutShort, Rises, session_of}
-use Rattle.ask_seats.specs.Talks.{Carried, GoesOn, Paused}
+use Rattle.cell_words.specs.declared.closed.Closed.{Closed}
+use Rattle.ask_seats.specs.Carrying.{LeavesFirst, KeepsCarried}
+use Rattle.ask_seats.specs.Talks.{Carried, GoesOn, IsPart, Paused, Writes}
+use Rattle.ask_seats.proofs.FrontLemmas.{leads-new, keeps-none}
+use Rattle.command_words.specs.declared.line.Line.{Line}
 use Rattle.ask_seats.proofs.SessionLemmas.{stands-first, cut-first, goes-first, ok_map}
 use Rattle.ask_seats.proofs.sessions.session.Goals as goal
 
@@ -46,6 +50,9 @@ returns-in_default-talk-clause-fails g c =
       e.cause.later,
     )
 
+pub talk-requires-clause-leads : goal.talk-requires-clause-leads
+talk-requires-clause-leads g c κs within = let e = c.in-Ok.ensures in leads-new _ (c.args.crew + 1) _ (omega arith) e.carried e.seats
+
 pub go_on-requires-clause-left : goal.go_on-requires-clause-left
 go_on-requires-clause-left g c κs within =
     let e = c.in-Ok-talk.ensures in let t = c.in-Ok-talk.rest.closed.table in record {
@@ -62,41 +69,49 @@ go_on-requires-clause-more g c κs within =
     subst (λ (z : Planning). GoesOn z.bound lines c.part_end-at.result) (sym (c.in-Ok-talk.ensures.plan ∙ c.in-Ok.ensures.plan))
     (goes-first c.args.plan.bound lines c.part_end-at.result e.part c.requires.rises e.within e.there c.requires.finish)
 
+-- where the first part leaves a session
+begins : (q p : Planning) (crew : ℕ) (f : Option ℕ) (c : Closed) (ls : List Line) (ranks : List ℕ) (old new : Option (List ℕ)) → p ≡ q → c.plan ≡ p → Writes p crew None f (λ r. has r ranks ≡ true) (Carried c.table) ls old new
+    → IsPart ls → ranks ≡ [] → LeavesFirst ranks c → Paused q c.plan crew f c.table ls old new × KeepsCarried q ls c
+begins q p crew f c ls ranks old new e same w part none first = (
+  subst (λ x. Paused x c.plan crew f c.table ls old new) e
+      (subst (λ y. Paused p y crew f c.table ls old new) (sym same) (record { tensors = refl; wrote = w (start p.bound) (stands-first p crew (λ r. has r ranks ≡ true)) refl })),
+  keeps-none q ls ranks c part none first,
+)
+
 pub returns-clause-tensors : goal.returns-clause-tensors
 returns-clause-tensors g c =
-    let p = c.in-Ok.board.base.plan in let rest = c.in-Ok-talk.rest in let crew : ℕ = c.args.crew in let ls = take c.part_end-at.result c.args.lines.now in
-    let old = (g.W.Sink.state c.args.out.now).taken in let mid = (g.W.Sink.state c.talk.new.out).taken in
-    let first = subst (λ z. Paused p z crew rest.finished rest.closed.table ls old mid) (sym c.in-Ok-talk.ensures.plan)
-    (record { tensors = refl; wrote = c.in-Ok-talk.ensures.written (start p.bound) (stands-first p crew (λ r. has r (carried_of c.in-Ok.board) ≡ true)) refl }) in
-    let paused = subst (λ z. Paused z rest.closed.plan crew rest.finished rest.closed.table ls old mid) c.in-Ok.ensures.plan first in
-    if_ok_map c.go_on.result (λ x h. (h c.args.plan old paused).0) c.go_on.ensures.spoken
+    let rest = c.in-Ok-talk.rest in let e = c.in-Ok-talk.ensures in
+    let b = begins c.args.plan c.in-Ok.board.base.plan c.args.crew rest.finished rest.closed (take c.part_end-at.result c.args.lines.now) c.in-Ok.board.base.carried.items (g.W.Sink.state c.args.out.now).taken (g.W.Sink.state c.talk.new.out).taken
+    c.in-Ok.ensures.plan e.plan e.written c.part_end-at.ensures.part c.in-Ok.ensures.carried e.first in
+    if_ok_map c.go_on.result (λ x h. (h c.args.plan _ b.0 b.1).0) c.go_on.ensures.spoken
 
 pub returns-clause-bound : goal.returns-clause-bound
 returns-clause-bound g c =
-    let p = c.in-Ok.board.base.plan in let rest = c.in-Ok-talk.rest in let crew : ℕ = c.args.crew in let ls = take c.part_end-at.result c.args.lines.now in
-    let old = (g.W.Sink.state c.args.out.now).taken in let mid = (g.W.Sink.state c.talk.new.out).taken in
-    let first = subst (λ z. Paused p z crew rest.finished rest.closed.table ls old mid) (sym c.in-Ok-talk.ensures.plan)
-    (record { tensors = refl; wrote = c.in-Ok-talk.ensures.written (start p.bound) (stands-first p crew (λ r. has r (carried_of c.in-Ok.board) ≡ true)) refl }) in
-    let paused = subst (λ z. Paused z rest.closed.plan crew rest.finished rest.closed.table ls old mid) c.in-Ok.ensures.plan first in
-    if_ok_map c.go_on.result (λ x h. (h c.args.plan old paused).1) c.go_on.ensures.spoken
+    let rest = c.in-Ok-talk.rest in let e = c.in-Ok-talk.ensures in
+    let b = begins c.args.plan c.in-Ok.board.base.plan c.args.crew rest.finished rest.closed (take c.part_end-at.result c.args.lines.now) c.in-Ok.board.base.carried.items (g.W.Sink.state c.args.out.now).taken (g.W.Sink.state c.talk.new.out).taken
+    c.in-Ok.ensures.plan e.plan e.written c.part_end-at.ensures.part c.in-Ok.ensures.carried e.first in
+    if_ok_map c.go_on.result (λ x h. (h c.args.plan _ b.0 b.1).1) c.go_on.ensures.spoken
 
 pub returns-clause-spoken : goal.returns-clause-spoken
 returns-clause-spoken g c =
-    let p = c.in-Ok.board.base.plan in let rest = c.in-Ok-talk.rest in let crew : ℕ = c.args.crew in let ls = take c.part_end-at.result c.args.lines.now in
-    let old = (g.W.Sink.state c.args.out.now).taken in let mid = (g.W.Sink.state c.talk.new.out).taken in
-    let first = subst (λ z. Paused p z crew rest.finished rest.closed.table ls old mid) (sym c.in-Ok-talk.ensures.plan)
-    (record { tensors = refl; wrote = c.in-Ok-talk.ensures.written (start p.bound) (stands-first p crew (λ r. has r (carried_of c.in-Ok.board) ≡ true)) refl }) in
-    let paused = subst (λ z. Paused z rest.closed.plan crew rest.finished rest.closed.table ls old mid) c.in-Ok.ensures.plan first in
-    on_ok_map c.go_on.result (λ x h. (h c.args.plan old paused).2) c.go_on.ensures.spoken
+    let rest = c.in-Ok-talk.rest in let e = c.in-Ok-talk.ensures in
+    let b = begins c.args.plan c.in-Ok.board.base.plan c.args.crew rest.finished rest.closed (take c.part_end-at.result c.args.lines.now) c.in-Ok.board.base.carried.items (g.W.Sink.state c.args.out.now).taken (g.W.Sink.state c.talk.new.out).taken
+    c.in-Ok.ensures.plan e.plan e.written c.part_end-at.ensures.part c.in-Ok.ensures.carried e.first in
+    on_ok_map c.go_on.result (λ x h. (h c.args.plan _ b.0 b.1).2) c.go_on.ensures.spoken
+
+pub returns-clause-carried : goal.returns-clause-carried
+returns-clause-carried g c =
+    let rest = c.in-Ok-talk.rest in let e = c.in-Ok-talk.ensures in
+    let b = begins c.args.plan c.in-Ok.board.base.plan c.args.crew rest.finished rest.closed (take c.part_end-at.result c.args.lines.now) c.in-Ok.board.base.carried.items (g.W.Sink.state c.args.out.now).taken (g.W.Sink.state c.talk.new.out).taken
+    c.in-Ok.ensures.plan e.plan e.written c.part_end-at.ensures.part c.in-Ok.ensures.carried e.first in
+    if_ok_map c.go_on.result (λ x h. (h c.args.plan _ b.0 b.1).3) c.go_on.ensures.spoken
 
 pub returns-clause-fails : goal.returns-clause-fails
 returns-clause-fails g c =
-    let p = c.in-Ok.board.base.plan in let rest = c.in-Ok-talk.rest in let crew : ℕ = c.args.crew in let ls = take c.part_end-at.result c.args.lines.now in
-    let old = (g.W.Sink.state c.args.out.now).taken in let mid = (g.W.Sink.state c.talk.new.out).taken in
-    let first = subst (λ z. Paused p z crew rest.finished rest.closed.table ls old mid) (sym c.in-Ok-talk.ensures.plan)
-    (record { tensors = refl; wrote = c.in-Ok-talk.ensures.written (start p.bound) (stands-first p crew (λ r. has r (carried_of c.in-Ok.board) ≡ true)) refl }) in
-    let paused = subst (λ z. Paused z rest.closed.plan crew rest.finished rest.closed.table ls old mid) c.in-Ok.ensures.plan first in
-    if_err_map c.go_on.result (λ x h. h c.args.plan (g.W.Sink.state c.args.out.now) c.requires.rises paused c.in-Ok-talk.ensures.cause.kept) c.go_on.ensures.fails
+    let rest = c.in-Ok-talk.rest in let e = c.in-Ok-talk.ensures in
+    let b = begins c.args.plan c.in-Ok.board.base.plan c.args.crew rest.finished rest.closed (take c.part_end-at.result c.args.lines.now) c.in-Ok.board.base.carried.items (g.W.Sink.state c.args.out.now).taken (g.W.Sink.state c.talk.new.out).taken
+    c.in-Ok.ensures.plan e.plan e.written c.part_end-at.ensures.part c.in-Ok.ensures.carried e.first in
+    if_err_map c.go_on.result (λ x h. h c.args.plan (g.W.Sink.state c.args.out.now) c.requires.rises b.0 e.cause.kept) c.go_on.ensures.fails
 
 pub returns-clause-steady : goal.returns-clause-steady
 returns-clause-steady g c = ok_map c.go_on.result (λ h. h ∙ c.in-Ok-talk.ensures.cause.kept) c.go_on.ensures.steady

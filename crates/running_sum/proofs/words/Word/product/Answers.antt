@@ -14,7 +14,7 @@ invariant_of-result c =
     let a : to_z w128 (of_z w128 (to_z w64 (of_z w64 n))) ≡ n = search rules in
     let b : to_z w128 (of_z w128 (to_z w64 (of_z w64 m))) ≡ m = search rules in
     let p : to_z w128 (of_z w128 (n *ℤ m)) ≡ n *ℤ m = search (rules, fits) in
-    rw (a, b, p) (record { num_fits = f; den_fits = size-shifted (c.self.inside.odd * c.o.inside.odd) c.bits.result (c.self.inside.twos + c.o.inside.twos) (search rules) (omega arith); twos_fit = (let i = c.self.invariant in let j = c.o.invariant in omega arith) })
+    rw (a, b, p) (record { num_fits = f; den_fits = search rules; twos_fit = (let i = c.self.invariant in let j = c.o.invariant in omega arith) })
 
 pub returns : goal.returns
 returns c =
@@ -25,4 +25,4 @@ returns c =
     let a : to_z w128 (of_z w128 (to_z w64 (of_z w64 n))) ≡ n = search rules in
     let b : to_z w128 (of_z w128 (to_z w64 (of_z w64 m))) ≡ m = search rules in
     let p : to_z w128 (of_z w128 (n *ℤ m)) ≡ n *ℤ m = search (rules, fits) in
-    rw (a, b, p) (product_of n m c.self.inside.odd c.o.inside.odd c.self.inside.twos c.o.inside.twos f (size-shifted (c.self.inside.odd * c.o.inside.odd) c.bits.result (c.self.inside.twos + c.o.inside.twos) (search rules) (omega arith)) ∙ ap₂ ◌⊛◌ c.self.view_is c.o.view_is)
+    rw (a, b, p) (product_of n m c.self.inside.odd c.o.inside.odd c.self.inside.twos c.o.inside.twos f (search rules) ∙ ap₂ ◌⊛◌ c.self.view_is c.o.view_is)

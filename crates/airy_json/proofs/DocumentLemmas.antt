@@ -1,0 +1,52 @@
+-- What reading the bytes of a document gives.
+use Rattle.std.proofs.Common.{◌≡◌, ℕ, ◌≤◌, nat_lt, Bool, true, false, cond, List, length, Result, Ok, Err, Some, None, IsUtf8, refl, ap, ◌∙◌, arith}
+use Rattle.std.proofs.lemmas.Bool.Decides.{nat_tests}
+use Rattle.std.proofs.lemmas.Str.{IsUtf8-from_is_utf8, is_utf8-from_IsUtf8}
+use Rattle.std.specs.Str.{is_utf8}
+use Rattle.std.specs.declared.option.Option.{Option}
+use Rattle.serde_json.specs.Data.{Data}
+use Rattle.serde_json.specs.Read.{read}
+use Rattle.airy_json.specs.Reading.{NoJson, Long, form_of, form_answer, data_answer, json_of, answer_of}
+use Rattle.airy_json.specs.Given.{IsWhole, Tells}
+use Rattle.airy_json.specs.declared.reading.Given.{Given}
+use Rattle.airy_json.specs.declared.refusals.JsonErr.{JsonErr}
+use Rattle.airy_json.specs.declared.refusals.JsonErr.TheVariants.{ReadFault, TooLong, NotJson, Form, Bound, Make, Plan, Cell, NoMemory}
+use Rattle.airy_json.specs.declared.refusals.JsonErr.TheVariants as json
+
+not_long : (n : ℕ) → n ≤ 16777216 → nat_lt 16777216 n ≡ false
+not_long n h = grind (arith, nat_tests)
+
+short_answer : (bytes : List ℕ) → length bytes ≤ 16777216 → answer_of bytes ≡ data_answer (json_of bytes)
+unfolding answer_of
+short_answer bytes h = ap (λ b. cond b Long (data_answer (json_of bytes))) (not_long (length bytes) h)
+
+pub answer-data : (bytes : List ℕ) (d : Data) → length bytes ≤ 16777216 → IsUtf8 bytes → read bytes ≡ Some d → answer_of bytes ≡ form_answer (form_of d)
+unfolding json_of data_answer
+answer-data bytes d h utf8 e =
+    short_answer bytes h ∙ ap (λ b. data_answer (cond b (read bytes) None)) (is_utf8-from_IsUtf8 bytes utf8) ∙ ap data_answer e
+
+pub answer-none : (bytes : List ℕ) → length bytes ≤ 16777216 → (IsUtf8 bytes → read bytes ≡ None) → answer_of bytes ≡ NoJson
+unfolding json_of data_answer
+answer-none bytes h none = short_answer bytes h ∙ by (is_utf8 bytes) refl
+  where
+    by : (t : Bool) → is_utf8 bytes ≡ t → data_answer (cond t (read bytes) None) ≡ NoJson
+    by true e = ap data_answer (none (IsUtf8-from_is_utf8 bytes e))
+    by false e = refl
+
+pub answer-long : (bytes : List ℕ) → length bytes ≡ 16777217 → answer_of bytes ≡ Long
+unfolding answer_of
+answer-long bytes e = rw e refl
+
+-- an answer in memory is one on the source
+pub whole_tells : (result : Result Given JsonErr) (bytes : List ℕ) (new : Option (List ℕ)) → IsWhole bytes new result → Tells result bytes new
+whole_tells (Ok given) bytes new w = w
+whole_tells (Err ReadFault) bytes new w = tt
+whole_tells (Err TooLong) bytes new w = absurd w.said
+whole_tells (Err NotJson) bytes new w = w
+whole_tells (Err Form) bytes new w = w
+whole_tells (Err json.Kind) bytes new w = w
+whole_tells (Err (Bound got)) bytes new w = w
+whole_tells (Err (Make k)) bytes new w = w
+whole_tells (Err (Plan why)) bytes new w = w
+whole_tells (Err (Cell place)) bytes new w = w
+whole_tells (Err NoMemory) bytes new w = tt

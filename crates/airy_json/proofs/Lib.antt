@@ -1,0 +1,15 @@
+pub mod CellLemmas
+pub mod DocumentLemmas
+pub mod FormLemmas
+pub mod PlanLemmas
+pub mod PieceLemmas
+pub mod LineLaw
+pub mod ReadLaw
+pub mod BackLaw
+pub mod KindLaw
+pub mod GivenLemmas
+pub mod StepLemmas
+pub mod VerifyScan
+pub mod VerifiedLaw
+pub mod SameVerifiedLaw
+pub mod JobVerifiedLaw

@@ -1,0 +1,10 @@
+use Rattle.std.proofs.Common.{rules, ◌≡◌}
+use Rattle.std.specs.Prelude.{string_bytes}
+use Rattle.tensor_text.specs.Canonical.{canonical_text}
+use Rattle.airy_json.proofs.KindLaw.{kind-canonical}
+use Rattle.airy_json.proofs.canonical.canonical_text.Goals as goal
+
+pub returns-clause-kind : goal.returns-clause-kind
+returns-clause-kind c =
+    let is : string_bytes c.in-Ok.text ≡ canonical_text c.args.t.now = search rules in
+    kind-canonical c.args.t.now (string_bytes c.in-Ok.text) is c.write_tensors.ensures.back

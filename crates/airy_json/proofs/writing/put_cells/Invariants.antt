@@ -1,0 +1,14 @@
+use Rattle.std.proofs.Common.{◌≡◌, ◌++◌, ℕ, ◌<◌, false, drop}
+use Rattle.std.specs.Prelude.{string_bytes, nat_lt}
+use Rattle.serde_json.specs.Written.{items_text}
+use Rattle.airy_math.specs.Obtained.{IsInRange}
+use Rattle.amp_plan.specs.Plans.{keys_of}
+use Rattle.airy_json.specs.Document.{cells_data, value_in, values_in}
+use Rattle.airy_json.proofs.writing.put_cells.Given as goal
+
+abbrev pub invariant-loop-rank : goal.invariant-loop-rank
+invariant-loop-rank l = record {
+  text : string_bytes l.text ++ items_text (nat_lt 0 l.rank) (cells_data (drop l.rank (keys_of l.plan)) (drop l.rank (values_in l.table)))
+      ≡ string_bytes l.initial.text ++ items_text false (cells_data (keys_of l.plan) (values_in l.table));
+  range : (r : ℕ) → r < l.rank → IsInRange (value_in l.table r);
+}

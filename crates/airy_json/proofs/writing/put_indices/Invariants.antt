@@ -1,0 +1,8 @@
+use Rattle.std.proofs.Common.{◌≡◌, ◌++◌, false, drop}
+use Rattle.std.specs.Prelude.{string_bytes, nat_lt}
+use Rattle.serde_json.specs.Written.{items_text}
+use Rattle.airy_json.specs.Document.{indices_data}
+use Rattle.airy_json.proofs.writing.put_indices.Given as goal
+
+abbrev pub invariant-loop-place : goal.invariant-loop-place
+invariant-loop-place l = string_bytes l.text ++ items_text (nat_lt 0 l.place) (indices_data (drop l.place l.idx)) ≡ string_bytes l.initial.text ++ items_text false (indices_data l.idx)

@@ -1,0 +1,20 @@
+use Rattle.std.proofs.Common.{◌≡◌, rules, inl, inr, true, false, refl}
+use Rattle.command_words.specs.Bounds.{is_bound}
+use Rattle.airy_json.specs.Reading.{named}
+use Rattle.run_reports.proofs.TableHeadline.{family_sound}
+use Rattle.airymore.specs.Documents.{structure_of_kind}
+use Rattle.airymore.proofs.DocumentLemmas.{document_bound, family_ends, kind_sound}
+use Rattle.airymore.proofs.documents.document_of_family.Goals as goal
+
+pub returns-then-is_bound : goal.returns-then-is_bound
+unfolding structure_of_kind
+returns-then-is_bound g c =
+    family_ends (record { unique = c.job_uniqueness.ensures; checked = c.job_checked.ensures; planned = c.planned_once.ensures }) (named c.args.family) (family_sound c.args.family) c.args.bound _ _ _
+    (elim c.made_document.ensures [ inl told ↦ inl told | inr wants ↦ inr (search rules, wants) ])
+
+pub returns-else-is_bound : goal.returns-else-is_bound
+unfolding structure_of_kind
+returns-else-is_bound g c =
+    let no : is_bound c.args.bound ≡ false = search rules in
+    family_ends (record { unique = c.job_uniqueness.ensures; checked = c.job_checked.ensures; planned = c.planned_once.ensures }) (named c.args.family) (family_sound c.args.family) c.args.bound _ _ _
+    (inl (rw (document_bound (named c.args.family) c.args.bound no) c.refuse_bound.ensures))

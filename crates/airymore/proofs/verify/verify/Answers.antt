@@ -1,0 +1,26 @@
+use Rattle.std.proofs.Common.{◌∙◌, ap, length, subst, sym}
+use Rattle.std.specs.Prelude.{List}
+use Rattle.airy_math.specs.Rational.{ℚ}
+use Rattle.sparse_tensor.specs.Grades.{AreSound}
+use Rattle.amp_plan.specs.Plans.{tensors_of}
+use Rattle.airy_json.specs.Verifying.{verified}
+use Rattle.run_reports.specs.Report.{Ends}
+use Rattle.airymore.specs.Verify.{verified_report}
+use Rattle.airymore.proofs.VerifyLemmas.{VerifyLaws, given_ends, given_long, refusal_ends}
+use Rattle.airymore.proofs.verify.verify.Goals as goal
+
+pub verify_given-requires : goal.verify_given-requires
+verify_given-requires g c =
+    ap (λ (vs : List ℚ). length vs) c.as_slice.ensures.value
+    ∙ given_long (record { planned = c.planned_once.ensures; below = c.below_dim.ensures; unique = c.job_uniqueness.ensures; job = c.verified_job.ensures; same = c.same_verified.ensures })
+    c.in-Ok.given.plan c.in-Ok.given.values.items c.in-Ok.ensures.read.bytes (subst AreSound c.tensors.ensures c.soundness_fact.ensures) c.in-Ok.ensures.read.tells.said
+
+pub returns-in-Ok : goal.returns-in-Ok
+returns-in-Ok g c =
+    given_ends _ _ _ _ _ (record { planned = c.planned_once.ensures; below = c.below_dim.ensures; unique = c.job_uniqueness.ensures; job = c.verified_job.ensures; same = c.same_verified.ensures })
+    c.in-Ok.given (subst AreSound c.tensors.ensures c.soundness_fact.ensures) c.in-Ok.ensures.read c.in-Ok.ensures.cause
+    (subst (λ (vs : List ℚ). Ends (verified_report (verified (tensors_of c.in-Ok.given.plan) c.in-Ok.given.plan.bound vs)) (g.W.Sink.state c.args.out.now) (g.W.Sink.state c.verify_given.new.out) c.verify_given.result)
+    c.as_slice.ensures.value c.verify_given.ensures)
+
+pub returns-in-Err : goal.returns-in-Err
+returns-in-Err g c = refusal_ends _ _ _ _ _ c.in-Err.refusal c.in-Err.ensures.read c.in-Err.ensures.cause c.refuse_document.ensures

@@ -1,0 +1,2 @@
+-- What a session writes, and what it shows.
+pub mod Sessions
