@@ -1,26 +1,13 @@
 -- Tensors with the same entries. Sequences that agree up to the greatest exponent have the same tensors, and the same is named of them.
-use Rattle.std.proofs.Common.{◌≡◌, ℕ, ◌+◌, ◌-◌, ◌*◌, ◌<◌, ◌≤◌, Bool, true, false, ◌&&◌, leb, eqb, refl, ap, ap₂, ◌∙◌, arith, pos}
+use Rattle.std.proofs.Common.{◌≡◌, ℕ, ◌+◌, ◌-◌, ◌*◌, ◌<◌, ◌≤◌, Bool, true, false, ◌&&◌, leb, eqb, refl, ap, ap₂, arith, pos}
 use Rattle.std.specs.Prelude.{Option}
 use Rattle.std.proofs.lemmas.Bool.{leb-true}
 use Rattle.airy_math.specs.Rational.{ℚ, ◌*ℚ◌, ◌+ℚ◌, ◌/ℚ◌, whole}
 use Rattle.airy_math.specs.RationalLaws.{1ℚ}
 use Rattle.airy_math.specs.Obtained.{obtained_product}
 use Rattle.airy_math.specs.Sums.{when}
-use Rattle.airy_math.specs.Tensors.{Tensors, SameEntries}
-use Rattle.airy_curve.specs.Curve.{curve, curve_shape, entry}
+use Rattle.airy_math.specs.Curves.{curve, curve_shape, entry}
 use Rattle.airy_curve.specs.Steps.{entry_refusal, first_answer, or_else, place_refusal, tensors_refusal, unless_obtained, where_so}
-
-pub same_trans : (T U V : Tensors) → SameEntries T U → SameEntries U V → SameEntries T V
-same_trans T U V e f =
-    let dim : T.dim ≡ U.dim = e.dim in
-    record {
-      dim = e.dim ∙ f.dim;
-      shape = e.shape ∙ f.shape;
-      A = λ i j k p q r. e.A i j k p q r ∙ f.A i j k (omega arith) (omega arith) (omega arith);
-      B = λ i j k p q r. e.B i j k p q r ∙ f.B i j k (omega arith) (omega arith) (omega arith);
-      C = λ i j k p q r. e.C i j k p q r ∙ f.C i j k (omega arith) (omega arith) (omega arith);
-      D = λ i p. e.D i p ∙ f.D i (omega arith);
-    }
 
 module _ (c d : ℕ → ℚ) (most : ℕ) (agree : (e : ℕ) → e ≤ most → c e ≡ d e) where
   entry_agree : (m n : ℕ) → entry c most m n ≡ entry d most m n

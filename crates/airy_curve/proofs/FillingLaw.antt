@@ -17,13 +17,13 @@ use Rattle.sparse_tensor.specs.Entries.{Entries, looked_up, value_at}
 use Rattle.sparse_tensor.specs.Grades.{AreEntries, IsSmallLaw, IsAtMost, keeps, keeps_a, keeps_b, keeps_c, keeps_d}
 use Rattle.sparse_tensor.specs.Puts.{with_b, with_c, with_d}
 use Rattle.sparse_tensor.proofs.PutFacts.{same_ordered, same_unordered}
-use Rattle.airy_curve.specs.Curve.{curve, curve_shape, entry}
-use Rattle.airy_curve.specs.Filling.{is_passed, FillsB, FillsC, FillsD}
+use Rattle.airy_math.specs.Curves.{curve, curve_shape, entry}
+use Rattle.airy_curve.specs.Filling.{exponent_of, is_passed, FillsB, FillsC, FillsD, IsPlace, Walks}
 use Rattle.airy_curve.specs.Steps.{unless_obtained, where_so, place_refusal}
 use Rattle.airy_curve.specs.Storing.{IsBegun}
 use Rattle.airy_curve.proofs.ValueLemmas.{when-true, when-false, cond-when, different, same_b, same_c, no_d, others-d}
 use Rattle.airy_curve.proofs.PutLemmas.{PutB, PutC, PutD, put_b, put_c, put_d, ordered_parts, unordered_parts}
-use Rattle.airy_curve.proofs.WalkLemmas.{next_at, skip_at, passed-here, passed-next, passed-other, passed-far, passed-row, passed-plane, passed-none, passed-all}
+use Rattle.airy_curve.proofs.WalkLemmas.{next_at, skip_at, passed-here, passed-next, passed-other, passed-row, passed-plane, passed-none, passed-all}
 
 -- ---- the law
 
@@ -70,6 +70,30 @@ one-test : (n m most : ℕ) → (m < n) ⊎ (most < m - n) → (leb n m && leb (
 one-test n m most (inl p) = first-test n m most p
 one-test n m most (inr p) = second-test n m most p
 
+-- e is m - n
+pub record IsExponent (m n most e : ℕ) : Type 0 where
+  pub low : n ≤ m
+  pub high : m - n ≤ most
+  pub is : e ≡ m - n
+
+pub exponent-some : (m n most e : ℕ) → exponent_of m n most ≡ Some e → IsExponent m n most e
+unfolding exponent_of
+exponent-some m n most e h = by (cases_lt m n) (cases_lt most (m - n))
+  where
+    by : (m < n) ⊎ (n ≤ m) → (most < m - n) ⊎ (m - n ≤ most) → IsExponent m n most e
+    by (inl p) y = let no = one-test n m most (inl p) in let clash : None ≡ Some e = sym (ap (λ b. cond b (Some (m - n)) None) no) ∙ h in cc
+    by (inr p) (inl q) = let no = one-test n m most (inr q) in let clash : None ≡ Some e = sym (ap (λ b. cond b (Some (m - n)) None) no) ∙ h in cc
+    by (inr p) (inr q) = let yes = two-tests n m most p q in let same : Some (m - n) ≡ Some e = sym (ap (λ b. cond b (Some (m - n)) None) yes) ∙ h in record { low = p; high = q; is = cc }
+
+pub exponent-none : (m n most : ℕ) → exponent_of m n most ≡ None → (m < n) ⊎ (most < m - n)
+unfolding exponent_of
+exponent-none m n most h = by (cases_lt m n) (cases_lt most (m - n))
+  where
+    by : (m < n) ⊎ (n ≤ m) → (most < m - n) ⊎ (m - n ≤ most) → (m < n) ⊎ (most < m - n)
+    by (inl p) y = inl p
+    by (inr p) (inl q) = inr q
+    by (inr p) (inr q) = let yes = two-tests n m most p q in let clash : Some (m - n) ≡ None = sym (ap (λ b. cond b (Some (m - n)) None) yes) ∙ h in cc
+
 module _ (f : ℕ → ℚ) where
   b-at : (dim most i j k : ℕ) → i + j ≤ k + 1 → k + 1 - (i + j) ≤ most → (curve f dim most).B i j k ≡ whole (2 * j + 1) *ℚ f (k + 1 - (i + j))
   unfolding curve entry
@@ -100,11 +124,11 @@ module _ (f : ℕ → ℚ) where
   -- ---- B
 
   -- a place of B at which the walk has come
-  pub room-b : (most i j k : ℕ) (t : Entries) (v : ℚ) → AreEntries t → t.shape ≡ curve_shape → FillsB f most i j k t → i < t.dim → j < t.dim → k < t.dim → i + j ≤ k + 1 → PutB t i j k v
+  pub room-b : (most i j k : ℕ) (t : Entries) (v : ℚ) → AreEntries t → IsPlace t most i j k → FillsB f most i j k t → i + j ≤ k + 1 → PutB t i j k v
   unfolding FillsB
-  room-b most i j k t v sound shape fills p q r h =
-      put_b t i j k v sound p q r (subst (λ s. keeps_b s i j k ≡ true) (sym shape) (keeps_b-curve i j k h))
-      (fills i j k p q r ∙ when-false (is_passed i j k i j k) _ (passed-here i j k))
+  room-b most i j k t v sound at fills h =
+      put_b t i j k v sound at.first at.second at.third (subst (λ s. keeps_b s i j k ≡ true) (sym at.shape) (keeps_b-curve i j k h))
+      (fills i j k at.first at.second at.third ∙ when-false (is_passed i j k i j k) _ (passed-here i j k))
 
   pub next-b : (most i j k : ℕ) (t : Entries) (v : ℚ) → PutB t i j k v → FillsB f most i j k t → i + j ≤ k + 1 → k + 1 - (i + j) ≤ most → obtained_product (whole (2 * j + 1)) (f (k + 1 - (i + j))) ≡ Some v → FillsB f most i j (k + 1) (with_b t i j k v)
   unfolding FillsB
@@ -120,30 +144,22 @@ module _ (f : ℕ → ℚ) where
       ))
       (λ s. passed-other i j k a b c (λ x y z. let clash = sym (same_b a b c i j k x y z) ∙ s in cc))
 
-  -- places at which nothing stands are passed over
-  pub skip-b : (most i j k k' : ℕ) (t : Entries) → FillsB f most i j k t → k ≤ k' → ((c : ℕ) → k ≤ c → c < k' → c < t.dim → (c + 1 < i + j) ⊎ (most < c + 1 - (i + j))) → FillsB f most i j k' t
+  -- a place at which nothing stands is passed over
+  pub skip-b : (most i j k : ℕ) (t : Entries) → FillsB f most i j k t → (k + 1 < i + j) ⊎ (most < k + 1 - (i + j)) → FillsB f most i j (k + 1) t
   unfolding FillsB
-  skip-b most i j k k' t fills h none = λ a b c p q r.
-      skip_at (is_passed i j k a b c) (is_passed i j k' a b c) ((looked_up t).B a b c) ((curve f t.dim most).B a b c) (fills a b c p q r) (by a b c r (cases_eq a i) (cases_eq b j) (cases_lt c k) (cases_lt c k'))
+  skip-b most i j k t fills none = λ a b c p q r.
+      skip_at (is_passed i j k a b c) (is_passed i j (k + 1) a b c) ((looked_up t).B a b c) ((curve f t.dim most).B a b c) (fills a b c p q r) (by a b c (cases_eq a i) (cases_eq b j) (cases_eq c k))
     where
-      by : (a b c : ℕ) → c < t.dim → (a ≡ i) ⊎ (a ≡ i → ⊥) → (b ≡ j) ⊎ (b ≡ j → ⊥) → (c < k) ⊎ (k ≤ c) → (c < k') ⊎ (k' ≤ c) → (is_passed i j k' a b c ≡ is_passed i j k a b c) ⊎ ((curve f t.dim most).B a b c ≡ 0ℚ)
-      by a b c r (inr x) y z w = inl (passed-far i j k k' a b c h (λ u v p q. x u))
-      by a b c r x (inr y) z w = inl (passed-far i j k k' a b c h (λ u v p q. y v))
-      by a b c r x y (inl z) w = inl (passed-far i j k k' a b c h (λ u v p q. omega arith))
-      by a b c r x y z (inr w) = inl (passed-far i j k k' a b c h (λ u v p q. omega arith))
-      by a b c r (inl x) (inl y) (inr z) (inl w) = inr (ap₂ (λ m n. (curve f t.dim most).B m n c) x y ∙ b-off t.dim most i j c (none c z w r))
+      by : (a b c : ℕ) → (a ≡ i) ⊎ (a ≡ i → ⊥) → (b ≡ j) ⊎ (b ≡ j → ⊥) → (c ≡ k) ⊎ (c ≡ k → ⊥) → (is_passed i j (k + 1) a b c ≡ is_passed i j k a b c) ⊎ ((curve f t.dim most).B a b c ≡ 0ℚ)
+      by a b c (inr x) y z = inl (passed-other i j k a b c (λ u v w. x u))
+      by a b c x (inr y) z = inl (passed-other i j k a b c (λ u v w. y v))
+      by a b c x y (inr z) = inl (passed-other i j k a b c (λ u v w. z w))
+      by a b c (inl x) (inl y) (inl z) = inr (ap₂ (λ m n. (curve f t.dim most).B m n c) x y ∙ ap ((curve f t.dim most).B i j) z ∙ b-off t.dim most i j k none)
 
   -- a row is done where the walk has come behind its last place
-  pub row-b : (most i j k : ℕ) (t : Entries) → FillsB f most i j k t → ((c : ℕ) → k ≤ c → c < t.dim → (c + 1 < i + j) ⊎ (most < c + 1 - (i + j))) → FillsB f most i (j + 1) 0 t
+  pub row-b : (most i j k : ℕ) (t : Entries) → t.dim ≤ k → FillsB f most i j k t → FillsB f most i (j + 1) 0 t
   unfolding FillsB
-  row-b most i j k t fills none = λ a b c p q r.
-      skip_at (is_passed i j k a b c) (is_passed i (j + 1) 0 a b c) ((looked_up t).B a b c) ((curve f t.dim most).B a b c) (fills a b c p q r) (by a b c r (cases_eq a i) (cases_eq b j) (cases_lt c k))
-    where
-      by : (a b c : ℕ) → c < t.dim → (a ≡ i) ⊎ (a ≡ i → ⊥) → (b ≡ j) ⊎ (b ≡ j → ⊥) → (c < k) ⊎ (k ≤ c) → (is_passed i (j + 1) 0 a b c ≡ is_passed i j k a b c) ⊎ ((curve f t.dim most).B a b c ≡ 0ℚ)
-      by a b c r (inr x) y z = inl (passed-row i j k a b c (λ u v w. x u))
-      by a b c r x (inr y) z = inl (passed-row i j k a b c (λ u v w. y v))
-      by a b c r x y (inl z) = inl (passed-row i j k a b c (λ u v w. omega arith))
-      by a b c r (inl x) (inl y) (inr z) = inr (ap₂ (λ m n. (curve f t.dim most).B m n c) x y ∙ b-off t.dim most i j c (none c z r))
+  row-b most i j k t h fills = λ a b c p q r. fills a b c p q r ∙ ap (λ d. when d ((curve f t.dim most).B a b c)) (sym (passed-row i j k a b c (λ x y z. omega arith)))
 
   pub plane-b : (most i j : ℕ) (t : Entries) → t.dim ≤ j → FillsB f most i j 0 t → FillsB f most (i + 1) 0 0 t
   unfolding FillsB
@@ -159,13 +175,13 @@ module _ (f : ℕ → ℚ) where
 
   -- ---- C
 
-  pub room-c : (most i j k : ℕ) (t : Entries) (v : ℚ) → AreEntries t → t.shape ≡ curve_shape → FillsC f most i j k t → i < t.dim → j < t.dim → k < t.dim → j ≤ k → i ≤ j + k + 2 → PutC t i j k v
+  pub room-c : (most i j k : ℕ) (t : Entries) (v : ℚ) → AreEntries t → IsPlace t most i j k → FillsC f most i j k t → j ≤ k → i ≤ j + k + 2 → PutC t i j k v
   unfolding FillsC
-  room-c most i j k t v sound shape fills p q r ordered h =
+  room-c most i j k t v sound at fills ordered h =
       let least : min j k ≡ j = omega arith in
       let greatest : max j k ≡ k = omega arith in
-      put_c t i j k v sound p q r (subst (λ s. keeps_c s i j k ≡ true) (sym shape) (keeps_c-curve i j k h))
-      (fills i j k p q r ∙ when-false (is_passed i j k i (min j k) (max j k)) _ (ap₂ (is_passed i j k i) least greatest ∙ passed-here i j k))
+      put_c t i j k v sound at.first at.second at.third (subst (λ s. keeps_c s i j k ≡ true) (sym at.shape) (keeps_c-curve i j k h))
+      (fills i j k at.first at.second at.third ∙ when-false (is_passed i j k i (min j k) (max j k)) _ (ap₂ (is_passed i j k i) least greatest ∙ passed-here i j k))
 
   -- an entry of C at the lesser index j and the greater k
   c-value : (dim most i j k a b c : ℕ) → a ≡ i → min b c ≡ j → max b c ≡ k → i ≤ j + k + 2 → j + k + 2 - i ≤ most → (curve f dim most).C a b c ≡ f (j + k + 2 - i)
@@ -192,30 +208,22 @@ module _ (f : ℕ → ℚ) where
       ))
       (λ s. passed-other i j k a (min b c) (max b c) (λ x y z. let clash = sym (same_c a b c i j k x (y ∙ sym least) (z ∙ sym greatest)) ∙ s in cc))
 
-  pub skip-c : (most i j k k' : ℕ) (t : Entries) → FillsC f most i j k t → k ≤ k' → ((m : ℕ) → k ≤ m → m < k' → j ≤ m → (j + m + 2 < i) ⊎ (most < j + m + 2 - i)) → FillsC f most i j k' t
+  pub skip-c : (most i j k : ℕ) (t : Entries) → FillsC f most i j k t → (k < j) ⊎ ((j + k + 2 < i) ⊎ (most < j + k + 2 - i)) → FillsC f most i j (k + 1) t
   unfolding FillsC
-  skip-c most i j k k' t fills h none = λ a b c p q r.
-      skip_at (is_passed i j k a (min b c) (max b c)) (is_passed i j k' a (min b c) (max b c)) ((looked_up t).C a b c) ((curve f t.dim most).C a b c) (fills a b c p q r)
-      (by a b c (cases_eq a i) (cases_eq (min b c) j) (cases_lt (max b c) k) (cases_lt (max b c) k'))
+  skip-c most i j k t fills none = λ a b c p q r.
+      skip_at (is_passed i j k a (min b c) (max b c)) (is_passed i j (k + 1) a (min b c) (max b c)) ((looked_up t).C a b c) ((curve f t.dim most).C a b c) (fills a b c p q r)
+      (by a b c (cases_eq a i) (cases_eq (min b c) j) (cases_eq (max b c) k) none)
     where
-      by : (a b c : ℕ) → (a ≡ i) ⊎ (a ≡ i → ⊥) → (min b c ≡ j) ⊎ (min b c ≡ j → ⊥) → (max b c < k) ⊎ (k ≤ max b c) → (max b c < k') ⊎ (k' ≤ max b c) → (is_passed i j k' a (min b c) (max b c) ≡ is_passed i j k a (min b c) (max b c)) ⊎ ((curve f t.dim most).C a b c ≡ 0ℚ)
-      by a b c (inr x) y z w = inl (passed-far i j k k' a (min b c) (max b c) h (λ u v p q. x u))
-      by a b c x (inr y) z w = inl (passed-far i j k k' a (min b c) (max b c) h (λ u v p q. y v))
-      by a b c x y (inl z) w = inl (passed-far i j k k' a (min b c) (max b c) h (λ u v p q. omega arith))
-      by a b c x y z (inr w) = inl (passed-far i j k k' a (min b c) (max b c) h (λ u v p q. omega arith))
-      by a b c (inl x) (inl y) (inr z) (inl w) = inr (c-zero t.dim most i j (max b c) a b c x y refl (none (max b c) z w (omega arith)))
+      by : (a b c : ℕ) → (a ≡ i) ⊎ (a ≡ i → ⊥) → (min b c ≡ j) ⊎ (min b c ≡ j → ⊥) → (max b c ≡ k) ⊎ (max b c ≡ k → ⊥) → (k < j) ⊎ ((j + k + 2 < i) ⊎ (most < j + k + 2 - i)) → (is_passed i j (k + 1) a (min b c) (max b c) ≡ is_passed i j k a (min b c) (max b c)) ⊎ ((curve f t.dim most).C a b c ≡ 0ℚ)
+      by a b c (inr x) y z n = inl (passed-other i j k a (min b c) (max b c) (λ u v w. x u))
+      by a b c x (inr y) z n = inl (passed-other i j k a (min b c) (max b c) (λ u v w. y v))
+      by a b c x y (inr z) n = inl (passed-other i j k a (min b c) (max b c) (λ u v w. z w))
+      by a b c (inl x) (inl y) (inl z) (inl n) = absurd (omega arith)
+      by a b c (inl x) (inl y) (inl z) (inr n) = inr (c-zero t.dim most i j k a b c x y z n)
 
-  pub row-c : (most i j k : ℕ) (t : Entries) → FillsC f most i j k t → ((m : ℕ) → k ≤ m → m < t.dim → j ≤ m → (j + m + 2 < i) ⊎ (most < j + m + 2 - i)) → FillsC f most i (j + 1) 0 t
+  pub row-c : (most i j k : ℕ) (t : Entries) → t.dim ≤ k → FillsC f most i j k t → FillsC f most i (j + 1) 0 t
   unfolding FillsC
-  row-c most i j k t fills none = λ a b c p q r.
-      skip_at (is_passed i j k a (min b c) (max b c)) (is_passed i (j + 1) 0 a (min b c) (max b c)) ((looked_up t).C a b c) ((curve f t.dim most).C a b c) (fills a b c p q r)
-      (by a b c q r (cases_eq a i) (cases_eq (min b c) j) (cases_lt (max b c) k))
-    where
-      by : (a b c : ℕ) → b < t.dim → c < t.dim → (a ≡ i) ⊎ (a ≡ i → ⊥) → (min b c ≡ j) ⊎ (min b c ≡ j → ⊥) → (max b c < k) ⊎ (k ≤ max b c) → (is_passed i (j + 1) 0 a (min b c) (max b c) ≡ is_passed i j k a (min b c) (max b c)) ⊎ ((curve f t.dim most).C a b c ≡ 0ℚ)
-      by a b c q r (inr x) y z = inl (passed-row i j k a (min b c) (max b c) (λ u v w. x u))
-      by a b c q r x (inr y) z = inl (passed-row i j k a (min b c) (max b c) (λ u v w. y v))
-      by a b c q r x y (inl z) = inl (passed-row i j k a (min b c) (max b c) (λ u v w. omega arith))
-      by a b c q r (inl x) (inl y) (inr z) = inr (c-zero t.dim most i j (max b c) a b c x y refl (none (max b c) z (omega arith) (omega arith)))
+  row-c most i j k t h fills = λ a b c p q r. fills a b c p q r ∙ ap (λ d. when d ((curve f t.dim most).C a b c)) (sym (passed-row i j k a (min b c) (max b c) (λ x y z. omega arith)))
 
   pub plane-c : (most i j : ℕ) (t : Entries) → t.dim ≤ j → FillsC f most i j 0 t → FillsC f most (i + 1) 0 0 t
   unfolding FillsC
@@ -277,21 +285,62 @@ double-d t t' t″ v none put e put' e' = λ i p.
 
 -- ---- the whole
 
-pub filled : (f : ℕ → ℚ) (dim most : ℕ) (letter : Bool) (v : ℚ) (t₁ t₂ t₃ t₄ : Entries) → IsBegun dim curve_shape letter t₁ → t₂ ≡ record t₁ { b = t₂.b } → FillsB f most t₂.dim 0 0 t₂ → t₃ ≡ record t₂ { c = t₃.c } → FillsC f most t₃.dim 0 0 t₃
-    → t₄ ≡ record t₃ { d = t₄.d } → FillsD v t₄ → v ≡ f 1 *ℚ (pos 1 /ℚ 8) → SameEntries (looked_up t₄) (curve f dim most)
+pub filled : (f : ℕ → ℚ) (dim most : ℕ) (letter : Bool) (v : ℚ) (t₁ t₂ t₃ : Entries) → IsBegun dim curve_shape letter t₁ → Walks f most t₁.dim 0 0 t₁ t₂ → t₃ ≡ record t₂ { d = t₃.d } → FillsD v t₃ → v ≡ f 1 *ℚ (pos 1 /ℚ 8) → SameEntries (looked_up t₃) (curve f dim most)
 unfolding looked_up curve FillsD
-filled f dim most letter v t₁ t₂ t₃ t₄ begin e₂ b e₃ c e₄ d value =
-    let dim_c : t₄.dim ≡ t₃.dim = ap (λ (t : Entries). t.dim) e₄ in
-    let dim_b : t₃.dim ≡ t₂.dim = ap (λ (t : Entries). t.dim) e₃ in
-    let dim_a : t₂.dim ≡ dim = ap (λ (t : Entries). t.dim) e₂ ∙ begin.dim_is in
-    let a₄ : t₄.a ≡ t₁.a = ap (λ (t : Entries). t.a) e₄ ∙ ap (λ (t : Entries). t.a) e₃ ∙ ap (λ (t : Entries). t.a) e₂ in
-    let b₄ : t₄.b ≡ t₂.b = ap (λ (t : Entries). t.b) e₄ ∙ ap (λ (t : Entries). t.b) e₃ in
-    let c₄ : t₄.c ≡ t₃.c = ap (λ (t : Entries). t.c) e₄ in
+filled f dim most letter v t₁ t₂ t₃ begin walk e d value =
+    let dim₂ : t₂.dim ≡ t₁.dim = ap (λ (t : Entries). t.dim) walk.others in
+    let dim₃ : t₃.dim ≡ t₂.dim = ap (λ (t : Entries). t.dim) e in
+    let b = subst (λ n. FillsB f most n 0 0 t₂) (sym dim₂) walk.b in
+    let c = subst (λ n. FillsC f most n 0 0 t₂) (sym dim₂) walk.c' in
     record {
-      dim = dim_c ∙ dim_b ∙ dim_a;
-      shape = ap (λ (t : Entries). t.shape) e₄ ∙ ap (λ (t : Entries). t.shape) e₃ ∙ ap (λ (t : Entries). t.shape) e₂ ∙ begin.shape_is;
-      A = λ i j k p q r. ap (λ es. value_at es i (min j k) (max j k)) a₄ ∙ begin.a_is i j k;
-      B = λ i j k p q r. ap (λ es. value_at es i j k) b₄ ∙ all-b f most t₂ b i j k (omega arith) (omega arith) (omega arith);
-      C = λ i j k p q r. ap (λ es. value_at es i (min j k) (max j k)) c₄ ∙ all-c f most t₃ c i j k (omega arith) (omega arith) (omega arith);
+      dim = dim₃ ∙ dim₂ ∙ begin.dim_is;
+      shape = ap (λ (t : Entries). t.shape) e ∙ ap (λ (t : Entries). t.shape) walk.others ∙ begin.shape_is;
+      A = λ i j k p q r. ap (λ (t : Entries). value_at t.a i (min j k) (max j k)) e ∙ ap (λ (t : Entries). value_at t.a i (min j k) (max j k)) walk.others ∙ begin.a_is i j k;
+      B = λ i j k p q r. ap (λ (t : Entries). value_at t.b i j k) e ∙ all-b f most t₂ b i j k (omega arith) (omega arith) (omega arith);
+      C = λ i j k p q r. ap (λ (t : Entries). value_at t.c i (min j k) (max j k)) e ∙ all-c f most t₂ c i j k (omega arith) (omega arith) (omega arith);
       D = λ i p. d i p ∙ ap (λ x. when (eqb i 0) x +ℚ when (eqb i 1) (pos 1 /ℚ 8)) value;
     }
+
+-- ---- walks
+
+module _ (f : ℕ → ℚ) (most : ℕ) where
+  -- a walk from a walk's end
+  pub walks_on : (n m l n' m' l' : ℕ) (t₀ t t' : Entries) → Walks f most n m l t₀ t → Walks f most n' m' l' t t' → Walks f most n' m' l' t₀ t'
+  walks_on n m l n' m' l' t₀ t t' w w' = record { b = w'.b; c' = w'.c'; others = w'.others ∙ ap (λ (u : Entries). record u { b = t'.b; c = t'.c }) w.others }
+
+  module _ (n m l : ℕ) (t₀ t : Entries) (w : Walks f most n m l t₀ t) where
+    pub walks_from : Walks f most n m l t t
+    walks_from = record { b = w.b; c' = w.c'; others = refl }
+
+    pub same_dim : t.dim ≡ t₀.dim
+    same_dim = ap (λ (u : Entries). u.dim) w.others
+
+    pub walks_row : t₀.dim ≤ l → Walks f most n (m + 1) 0 t₀ t
+    walks_row h = record { b = row-b f most n m l t (omega (arith, same_dim)) w.b; c' = row-c f most n m l t (omega (arith, same_dim)) w.c'; others = w.others }
+
+    pub place_at : (a b d i j k : ℕ) → IsPlace t₀ most a b d → i < t₀.dim → j < t₀.dim → k < t₀.dim → IsPlace t most i j k
+    place_at a b d i j k at p q r = record {
+      first = omega (arith, same_dim);
+      second = omega (arith, same_dim);
+      third = omega (arith, same_dim);
+      most' = at.most';
+      shape = ap (λ (u : Entries). u.shape) w.others ∙ at.shape;
+    }
+
+  pub walks_plane : (n m : ℕ) (t₀ t : Entries) → t₀.dim ≤ m → Walks f most n m 0 t₀ t → Walks f most (n + 1) 0 0 t₀ t
+  walks_plane n m t₀ t h w =
+      let wide : t.dim ≤ m = omega (arith, same_dim n m 0 t₀ t w) in
+      record { b = plane-b f most n m t wide w.b; c' = plane-c f most n m t wide w.c'; others = w.others }
+
+  -- B, then C
+  pub walks_both : (i j k : ℕ) (t t' t″ : Entries) → t' ≡ record t { b = t'.b } → FillsB f most i j (k + 1) t' → t″ ≡ record t' { c = t″.c } → FillsC f most i j (k + 1) t″ → Walks f most i j (k + 1) t t″
+  unfolding FillsB looked_up
+  walks_both i j k t t' t″ e b e' c = record {
+    b = subst (FillsB f most i j (k + 1)) (sym e') b;
+    c' = c;
+    others = e' ∙ ap (λ (u : Entries). record u { c = t″.c }) e ∙ ap (λ es. record t { b = es; c = t″.c }) (sym (ap (λ (u : Entries). u.b) e'));
+  }
+
+  pub still_c : (i j k : ℕ) (t t' : Entries) → t' ≡ record t { b = t'.b } → FillsC f most i j k t → FillsC f most i j k t'
+  unfolding FillsC looked_up
+  still_c i j k t t' e c = subst (FillsC f most i j k) (sym e) c

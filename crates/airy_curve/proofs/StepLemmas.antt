@@ -1,16 +1,17 @@
 -- The steps for the numbers of a curve, one at a time.
 use Rattle.std.proofs.Common.{◌≡◌, ℕ, zero, suc, ◌+◌, ◌-◌, ◌<◌, ◌≤◌, ◌⊎◌, inl, inr, List, [], ◌∷◌, get_or, replicate, length, refl, sym, ap, ap₂, ◌∙◌, arith}
-use Rattle.std.specs.Prelude.{Option, Some, None, set}
+use Rattle.std.specs.Prelude.{Option, Some, None, Err, set}
 use Rattle.std.proofs.lemmas.Bool.{cases_eq, cases_lt}
 use Rattle.std.proofs.lemmas.List.{length-set, length-replicate, get_or-set_same, get_or-set_other, get_or_read, get_or_past}
 use Rattle.airy_math.specs.Rational.{ℚ, ◌+ℚ◌, ◌*ℚ◌, neg_ℚ}
 use Rattle.airy_math.specs.RationalLaws.{0ℚ, 1ℚ, +ℚ_assoc, 0ℚ_idl}
 use Rattle.airy_math.specs.Obtained.{obtained_from, obtained_sum, obtained_product, both_obtained}
-use Rattle.airy_math.proofs.ObtainedLaw.{sum_exact, product_exact}
+use Rattle.airy_math.proofs.ObtainedLaw.{sum_exact, product_exact, none_stays}
 use Rattle.airy_math.proofs.SumLemmas.{0ℚ_idr}
-use Rattle.airy_curve.specs.Curve.{paired, numbers_down, first_or_zero, number_of, of_list}
+use Rattle.airy_math.specs.Curves.{paired, numbers_down, first_or_zero, number_of, of_list}
 use Rattle.airy_curve.specs.Numbers.{held, downwards, Holds, Begins}
 use Rattle.airy_curve.specs.Steps.{obtained_products, negative, next_number, unless_obtained, or_else, first_answer, number_refusal, entry_refusal, tensors_refusal}
+use Rattle.airy_curve.specs.Filling.{Tells}
 use Rattle.airy_curve.specs.Storing.{Names}
 use Rattle.airy_curve.specs.declared.making.CurveErr.{CurveErr}
 use Rattle.airy_curve.specs.declared.making.CurveErr.TheVariants.{Over, NoMemory}
@@ -50,11 +51,14 @@ answer_ends f a e h = ap (λ m. first_answer a m f) none ∙ ends
     ends : first_answer a 0 f ≡ None
     ends = refl
 
--- an error that names the first answer
-pub names_stops : (err : CurveErr) (f : ℕ → Option ℕ) (a e : ℕ) → a < e → Names err (f a) → Names err (first_answer a (e - a) f)
-unfolding Names
-names_stops (Over k) f a e h n = answer_stops f a e k h n
-names_stops NoMemory f a e h n = tt
+-- an error that tells the answer at a, where the numbers before it had none
+pub tells_first : (err : CurveErr) (f : ℕ → Option ℕ) (a e : ℕ) → a < e → Tells (Err err) (f a) → Tells (Err err) (first_answer a (e - a) f)
+unfolding Tells Names
+tells_first (Over k) f a e h n = answer_stops f a e k h n
+tells_first NoMemory f a e h n = tt
+
+pub answer_starts : (f : ℕ → Option ℕ) (e : ℕ) → first_answer 0 (e - 0) f ≡ first_answer 0 e f
+answer_starts f e = ap (λ m. first_answer 0 m f) (omega arith)
 
 -- an error that names what the first steps name, names what all steps name
 names_first : (err : CurveErr) (o later : Option ℕ) → Names err o → Names err (or_else o later)
@@ -68,12 +72,6 @@ unfolding tensors_refusal
 names_entry err f dim most h = names_first err (entry_refusal f dim most) _ h
 
 -- ---- the sum of c_k
-
-none_stays : (ts : List (Option ℚ)) → obtained_from None ts ≡ None
-unfolding obtained_from both_obtained
-none_stays [] = refl
-none_stays (None ∷ ts) = none_stays ts
-none_stays (Some y ∷ ts) = none_stays ts
 
 -- what is left to add when a sum comes to l
 abbrev pub rest : (ℕ → ℚ) → (ℕ → ℚ) → ℕ → ℕ → List (Option ℚ)

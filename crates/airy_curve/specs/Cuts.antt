@@ -1,26 +1,11 @@
--- A curve at every greatest index, and that the stored entries are a cut of it.
-use Prim.Native.Nat.{ℕ, suc, ◌+◌, ◌*◌, ◌-◌, ◌<◌, ◌≤◌}
-use mathlib.Core.Bool.{◌&&◌}
-use lib.Dec.{eqb, leb}
-use lib.IntN.{pos}
+-- The stored entries of a curve are a cut of the curve at every greatest index.
+use Prim.Native.Nat.{ℕ, suc, ◌<◌, ◌≤◌}
 use Rattle.airy_math.specs.Cuts.{IsCut}
+use Rattle.airy_math.specs.Curves.{curve, whole_curve}
 use Rattle.airy_math.specs.Families.{top_wk}
-use Rattle.airy_math.specs.Rational.{ℚ, ◌+ℚ◌, ◌*ℚ◌, ◌/ℚ◌, whole}
+use Rattle.airy_math.specs.Rational.{ℚ}
 use Rattle.airy_math.specs.RationalLaws.{1ℚ}
-use Rattle.airy_math.specs.Sums.{when}
-use Rattle.airy_math.specs.Tensors.{Tensors, IsGraded, IsSymmetric}
-use Rattle.airy_curve.specs.Curve.{curve, curve_shape}
-
--- the tensors of the sequence c with all indices up to M, and with every exponent that they have
-unfoldable pub whole_curve : (ℕ → ℚ) → ℕ → Tensors
-whole_curve c M = record {
-  dim = suc M;
-  shape = curve_shape;
-  A = λ i j k. when (eqb i 0 && eqb j 0 && eqb k 0) 1ℚ;
-  B = λ i j k. when (leb (i + j) (k + 1)) (whole (2 * j + 1) *ℚ c (k + 1 - (i + j)));
-  C = λ i j k. when (leb i (j + k + 2)) (c (j + k + 2 - i));
-  D = λ i. when (eqb i 0) (c 1 *ℚ (pos 1 /ℚ 8)) +ℚ when (eqb i 1) (pos 1 /ℚ 8);
-}
+use Rattle.airy_math.specs.Tensors.{IsGraded, IsSymmetric}
 
 -- The tensors that a table up to X is made of are a cut of the whole ones, at every M from their top t on: each entry that they lack
 -- stands, up to X, only in terms with a factor that is unstable or not covered. Both are graded, and symmetric.

@@ -5,9 +5,9 @@ use mathlib.Core.List.{[], ◌∷◌}
 use lib.IntN.{pos, negsuc}
 use Rattle.std.specs.Prelude.{Some, None}
 use Rattle.airy_math.specs.Rational.{◌/ℚ◌}
-use Rattle.airy_curve.specs.CurveExamples.{curve_computes}
+use Rattle.airy_math.specs.CutExamples.{curve_computes}
 use Rattle.airy_curve.specs.Steps.{obtained_products, negative, next_number, unless_obtained, or_else, where_so, first_answer, number_refusal, place_refusal, tensors_refusal, curve_refusal}
-use Rattle.airy_curve.specs.Curve.{of_list}
+use Rattle.airy_math.specs.Curves.{of_list}
 
 unfoldable pub steps_compute : ℕ → ℕ
 unfolding obtained_products negative next_number unless_obtained or_else where_so first_answer number_refusal place_refusal tensors_refusal curve_refusal

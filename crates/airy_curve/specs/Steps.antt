@@ -8,7 +8,7 @@ use Rattle.std.specs.Prelude.{Option, Some, None}
 use Rattle.airy_math.specs.Rational.{ℚ, ◌/ℚ◌, neg_ℚ, whole}
 use Rattle.airy_math.specs.RationalLaws.{0ℚ}
 use Rattle.airy_math.specs.Obtained.{obtained_product, obtained_from}
-use Rattle.airy_curve.specs.Curve.{numbers_down, number_of}
+use Rattle.airy_math.specs.Curves.{numbers_down, number_of}
 
 -- u_l times the first number, u_(l+1) times the next, and so on
 unfoldable pub obtained_products : (ℕ → ℚ) → ℕ → List ℚ → List (Option ℚ)

@@ -14,7 +14,7 @@ use Rattle.airy_math.specs.Tensors.{Tensors, SameEntries}
 use Rattle.airy_relations.specs.NoDifference.{FindsNoDifference}
 use Rattle.airy_relations.specs.Verdicts.{verdict}
 use Rattle.sparse_tensor.specs.Entries.{Entries, looked_up}
-use Rattle.airy_curve.specs.Curve.{curve}
+use Rattle.airy_math.specs.Curves.{curve}
 use Rattle.airy_curve.specs.declared.making.CurveErr.{CurveErr}
 use Rattle.airy_curve.specs.declared.making.CurveErr.TheVariants.{Over, NoMemory}
 

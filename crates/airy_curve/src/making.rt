@@ -1,8 +1,8 @@
 ghost use Rattle.std.specs.Prelude.{◌≡◌, ◌≤◌, ◌<◌, ◌+◌, ◌*◌, OnOk, IfOk, IfErr, None, length, pos, suc, true, ℕ};
 ghost use Rattle.airy_math.specs.Families.{top_wk};
 ghost use Rattle.airy_math.specs.Rational.{◌/ℚ◌};
-ghost use Rattle.airy_curve.specs.Curve as exact;
-ghost use Rattle.airy_curve.specs.Curve.{number_of, of_list};
+ghost use Rattle.airy_math.specs.Curves as exact;
+ghost use Rattle.airy_math.specs.Curves.{number_of, of_list};
 ghost use Rattle.airy_curve.specs.Numbers.{held};
 ghost use Rattle.airy_curve.specs.Steps.{tensors_refusal, curve_refusal};
 ghost use Rattle.airy_curve.specs.Storing.{IsBegun, MeetsRelations, Names, StandsFor};
@@ -11,7 +11,7 @@ ghost use Rattle.sparse_tensor.specs.Entries.{looked_up};
 ghost use Rattle.sparse_tensor.specs.Grades.{IsSmallLaw, IsAtMost, keeps_a};
 ghost use Rattle.airy_math.specs.Tensors.{SameEntries};
 
-use crate::filling::{fill_b, fill_c, fill_d};
+use crate::filling::{fill, fill_d};
 use crate::numbers::{numbers_up_to, sequence_of};
 use frac128::Frac;
 use sparse_tensor::{Law, NoMemory, PutErr, Shape, Tensors};
@@ -95,8 +95,7 @@ pub fn tensors_of(
 {
     let shape = Shape::AtMost(Law { per_g: 3, per_n: 1 });
     let mut tensors = with_corner(alloc, dim, shape, letter)?;
-    fill_b(&mut tensors, numbers, most)?;
-    fill_c(&mut tensors, numbers, most)?;
+    fill(&mut tensors, numbers, most)?;
     let Some(corner) = numbers[1].mul(eighth()) else {
         return Err(CurveErr::Over { k: 1 });
     };

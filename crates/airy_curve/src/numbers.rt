@@ -1,5 +1,5 @@
 ghost use Rattle.std.specs.Prelude.{◌≡◌, ◌<◌, ◌≤◌, ◌+◌, None, Some, OnOk, IfOk, IfErr, length};
-ghost use Rattle.airy_curve.specs.Curve.{number_of, of_list};
+ghost use Rattle.airy_math.specs.Curves.{number_of, of_list};
 ghost use Rattle.airy_curve.specs.Numbers.{downwards, held, Holds};
 ghost use Rattle.airy_curve.specs.Steps as steps;
 ghost use Rattle.airy_curve.specs.Steps.{first_answer, number_refusal};

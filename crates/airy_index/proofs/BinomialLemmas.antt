@@ -1,10 +1,7 @@
 -- Binomials: the step from one to the next in a row, and how large they are.
-use Rattle.std.proofs.Common.{◌≡◌, ℕ, zero, suc, ◌+◌, ◌-◌, ◌*◌, ◌/◌, ◌^◌, ◌<◌, ◌≤◌, refl, ◌∙◌, ap, arith, inl, inr}
-use Rattle.std.specs.Prelude.{◌⊎◌}
-use Rattle.std.proofs.lemmas.Bool.{cases_lt}
-use Rattle.std.proofs.Math.Nat.{pow-suc, mul-div_cancel, pow-le-pow_right, mul-le-mul}
-use Rattle.airy_math.specs.Sums.{binomial}
-use Rattle.airy_math.proofs.SplitLemmas.{binomial-over}
+use Rattle.std.proofs.Common.{◌≡◌, ℕ, zero, suc, ◌+◌, ◌-◌, ◌*◌, ◌/◌, ◌^◌, ◌<◌, ◌≤◌, refl, ◌∙◌, ap, arith, inl, inr, ◌⊎◌}
+use Rattle.airy_index.proofs.Words.{cases_lt, pow-suc, pow-le-pow_right, mul-le-mul, binomial, binomial-over}
+use Rattle.std.proofs.Math.Nat.{mul-div_cancel}
 
 -- k + 1 times the next is n - k times this one
 pub binomial-step : (n k : ℕ) → binomial n (suc k) * suc k ≡ binomial n k * (n - k)

@@ -1,20 +1,10 @@
 -- The splits from the first choice on are all splits, and each next choice leaves the splits behind the chosen one.
-use Rattle.std.proofs.Common.{◌≡◌, ℕ, suc, ◌+◌, ◌-◌, ◌<◌, List, [], ◌∷◌, ◌++◌, map, length, refl, sym, ap, ap₂, ◌∙◌, arith}
-use Rattle.std.specs.Prelude.{Bool, true, false, not}
+use Rattle.std.proofs.Common.{◌≡◌, ℕ, suc, ◌+◌, ◌-◌, ◌<◌, List, [], ◌∷◌, ◌++◌, map, length, refl, sym, ap, ap₂, ◌∙◌, arith, drop, length-drop, Bool, true, false, not, take_all, ◌≤◌}
 use Rattle.std.specs.Bool.{OnTrue, OnFalse}
-use Rattle.std.specs.List.{refill}
-use Rattle.std.proofs.Common.{drop, length-drop}
-use Rattle.std.proofs.lemmas.List.{nil_from_length, take_all}
-use Rattle.airy_math.specs.Splits.{Split, pairs, spread, weight, splits_of, splits, runs}
-use Rattle.airy_math.specs.Sums.{below, count_from, each}
+use Rattle.airy_index.proofs.Words.{refill, nil_from_length, Split, runs, below, count_from, each, Run, counts_of, put_before, chosen_split, all_splits, splits_after, splits_left, TakesNone}
+use Rattle.airy_math.specs.Splits.{pairs, spread, weight, splits_of, splits}
 use Rattle.airy_math.proofs.KeyLemmas.{map-map, map_pairs-cons, append-nil}
-use Rattle.airy_index.specs.declared.runs.Run.{Run}
-use Rattle.airy_index.specs.Choices.{counts_of, put_before, chosen_split, all_splits, splits_after, splits_left, TakesNone}
-
-each-cong : {A B : Type 0} (f h : A → List B) (xs : List A) → ((x : A) → f x ≡ h x) → each xs f ≡ each xs h
-unfolding each
-each-cong f h [] e = refl
-each-cong f h (x ∷ xs) e = ap₂ ◌++◌ (e x) (each-cong f h xs e)
+use Rattle.airy_math.proofs.EachLemmas.{each-cong}
 
 -- the splits of a list with one distinct index more
 splits_of-more : (v x : ℕ) (vs es : List ℕ) → splits_of (v ∷ vs) (x ∷ es) ≡ each (below (suc x)) (λ t. map (put_before v x t) (splits_of vs es))
@@ -94,3 +84,7 @@ pub refill_same : (rs ws : List Run) → length ws ≡ length rs → refill (len
 refill_same rs ws e =
     let none : drop (length ws) rs ≡ [] = nil_from_length _ (omega (arith, length-drop (length ws) rs)) in
     rw none (rw (append-nil ws) (take_all (length rs) ws (omega arith)))
+
+-- a number that isn't the greatest is less
+pub below_other : (a b : ℕ) → a ≤ b → (a ≡ b → ⊥) → a < b
+below_other a b h n = grind arith

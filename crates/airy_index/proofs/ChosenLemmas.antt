@@ -1,14 +1,8 @@
 -- A split that is put together run by run.
-use Rattle.std.proofs.Common.{◌≡◌, ℕ, ◌+◌, ◌-◌, ◌*◌, ◌^◌, ◌≤◌, List, [], ◌∷◌, ◌++◌, map, length, refl, sym, ◌∙◌, ap, arith, append_assoc, length-append}
-use Rattle.std.proofs.lemmas.List.{length-replicate, append-nil}
-use Rattle.std.proofs.lemmas.Nat.{pow-add}
-use Rattle.std.proofs.Math.Nat.{mul-le-mul, mul_assoc, pow-le-pow_right, one-le-pow}
-use lib.ListN.{replicate}
-use Rattle.airy_math.specs.Keys.{total}
-use Rattle.airy_math.specs.Splits.{Split}
-use Rattle.airy_math.specs.Sums.{binomial}
-use Rattle.airy_index.specs.declared.runs.Run.{Run}
-use Rattle.airy_index.specs.Choices.{counts_of, whole_length, put_before, chosen_split, IsChoice, IsWalk}
+use Rattle.std.proofs.Common.{◌≡◌, ℕ, ◌+◌, ◌-◌, ◌*◌, ◌^◌, ◌≤◌, List, [], ◌∷◌, ◌++◌, map, length, refl, sym, ◌∙◌, ap, arith, append_assoc, length-append, append-nil, pow-add, replicate}
+use Rattle.std.proofs.lemmas.List.{length-replicate}
+use Rattle.airy_index.proofs.Words.{mul-le-mul, pow-le-pow_right, total, Split, binomial, Run, counts_of, whole_length, put_before, chosen_split, IsChoice, IsWalk}
+use Rattle.std.proofs.Math.Nat.{mul_assoc, one-le-pow}
 use Rattle.airy_index.proofs.BinomialLemmas.{binomial-small}
 
 -- What is built and what the runs left choose make the split that all runs choose, and there is room for it.

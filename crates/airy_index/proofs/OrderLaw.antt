@@ -1,6 +1,5 @@
 -- The order of a plan is a strict order, and total.
-use Rattle.std.proofs.Common.{◌≡◌, ℕ, ◌<◌, Bool, true, false, List, [], ◌∷◌, length, refl, sym, ◌∙◌, ap₂, arith, inl, inr}
-use Rattle.std.specs.Prelude.{nat_lt, nat_eq, cond, ◌&&◌, ◌⊎◌}
+use Rattle.std.proofs.Common.{◌≡◌, ℕ, ◌<◌, Bool, true, false, List, [], ◌∷◌, length, refl, sym, ◌∙◌, ap₂, arith, inl, inr, nat_lt, nat_eq, cond, ◌&&◌, ◌⊎◌}
 use Rattle.airy_math.specs.Keys.{Key, before, euler, less_list}
 use Rattle.airy_index.specs.Order.{IsStrictOrder}
 

@@ -1,11 +1,6 @@
 -- The runs of a list, read from left to right.
-use Rattle.std.proofs.Common.{◌≡◌, ℕ, suc, ◌+◌, ◌<◌, ◌≤◌, Bool, true, false, List, [], ◌∷◌, ◌++◌, map, length, drop, refl, sym, ◌∙◌, ap, arith, append_assoc, length-append}
-use Rattle.std.specs.Prelude.{nat_eq, slice_index}
-use Rattle.std.proofs.lemmas.List.{drop_more, map-append, nil_from_length}
-use Rattle.airy_math.specs.Keys.{total}
-use Rattle.airy_math.specs.Splits.{runs, into_runs}
-use Rattle.airy_index.specs.declared.runs.Run.{Run}
-use Rattle.airy_index.specs.Choices.{counts_of, whole_length, IsChoice, TakesNone, IsWalk}
+use Rattle.std.proofs.Common.{◌≡◌, ℕ, suc, ◌+◌, ◌<◌, ◌≤◌, Bool, true, false, List, [], ◌∷◌, ◌++◌, map, length, drop, refl, sym, ◌∙◌, ap, arith, append_assoc, length-append, nat_eq, slice_index}
+use Rattle.airy_index.proofs.Words.{drop_more, map-append, nil_from_length, total, runs, into_runs, Run, counts_of, whole_length, IsChoice, TakesNone, IsWalk}
 
 -- c copies of v before a run, which is of the same index where the test says so
 abbrev pub merged_if : Bool → ℕ → ℕ → (ℕ × ℕ) → List (ℕ × ℕ) → List (ℕ × ℕ)

@@ -1,26 +1,16 @@
 -- The splits of a list: their parts, and how the numbers of ways add up.
-use Rattle.std.proofs.Common.{◌≡◌, ℕ, zero, suc, ◌+◌, ◌-◌, ◌*◌, ◌^◌, ◌<◌, ◌≤◌, Bool, true, false, List, [], ◌∷◌, ◌++◌, map, refl, sym, ap, ap₂, subst, ◌∙◌, arith, inl, inr}
-use Rattle.std.specs.Prelude.{nat_eq, ◌⊎◌, ◌&&◌}
+use Rattle.std.proofs.Common.{◌≡◌, ℕ, zero, suc, ◌+◌, ◌-◌, ◌*◌, ◌^◌, ◌<◌, ◌≤◌, Bool, true, false, List, [], ◌∷◌, ◌++◌, map, refl, sym, ap, ap₂, subst, ◌∙◌, arith, inl, inr, nat_eq, ◌⊎◌, ◌&&◌, pow-add, eq-eqb, eqb-true, ne_eqb, replicate}
 use Rattle.std.specs.List.{AllByRecursion}
-use Rattle.std.proofs.lemmas.List.{map-append}
-use Rattle.std.proofs.lemmas.Nat.{pow-add}
-use Rattle.std.proofs.Math.Nat.{pow-suc, add-mul}
-use Rattle.std.proofs.lemmas.Bool.{false≢true, eq-eqb, eqb-true, ne_eqb, cases_lt}
-use lib.ListN.{replicate}
-use Rattle.airy_math.specs.Keys.{total, times, more, same_list, IsSortedFrom}
-use Rattle.airy_math.specs.Splits.{Split, runs, into_runs}
-use Rattle.airy_math.specs.Sums.{below, binomial, count_from, each}
+use Rattle.airy_index.proofs.Words.{map-append, pow-suc, cases_lt, total, IsSortedFrom, Split, runs, into_runs, below, binomial, count_from, each, binomial-over, whole_length, put_before, chosen_split, all_splits}
+use Rattle.std.proofs.Math.Nat.{add-mul}
+use Rattle.std.proofs.lemmas.Bool.{false≢true}
+use Rattle.airy_math.specs.Keys.{times, more, same_list}
 use Rattle.airy_math.proofs.SumLemmas.{Each, Each-each, Each-map, Each-below, Each-weaken}
-use Rattle.airy_math.proofs.SplitLemmas.{binomial-over}
 use Rattle.airy_math.proofs.MeasureLemmas.{measure, measure-length, measure-total}
-use Rattle.airy_index.specs.Choices.{whole_length, put_before, chosen_split, all_splits}
 use Rattle.airy_index.specs.SplitLaw.{IsSplitOf, SplitsLaw, times_part}
-use Rattle.airy_index.proofs.ChoiceLemmas.{splits-all}
+use Rattle.airy_index.proofs.ChoiceLemmas.{splits-all, below_other}
 use Rattle.airy_index.proofs.SortedLemmas.{sorted-weaken}
 use Rattle.airy_index.proofs.RunLemmas.{merged, merged_if, into_runs-merged, whole_length-runs}
-
-below_other : (a b : ℕ) → a ≤ b → (a ≡ b → ⊥) → a < b
-below_other a b h n = grind arith
 
 -- ---- the numbers of ways
 

@@ -1,18 +1,12 @@
 -- Cells that are read one after another.
-use Rattle.std.proofs.Common.{◌≡◌, ℕ, zero, suc, ◌+◌, ◌<◌, ◌≤◌, List, [], ◌∷◌, ◌++◌, length, drop, get_or, Option, Some, None, option_map, refl, sym, ap, ap₂, ◌∙◌, subst, arith, cond, is_some}
-use Rattle.std.proofs.lemmas.List.{drop_more, drop_all, append_assoc, append-nil}
-use Rattle.airy_math.specs.Rational.{ℚ}
-use Rattle.airy_math.specs.Keys.{Key}
-use Rattle.airy_math.specs.Ranks.{no_key}
-use Rattle.amp_plan.specs.Plans.{Planning, keys_of}
+use Rattle.std.proofs.Common.{◌≡◌, ℕ, zero, suc, ◌+◌, ◌<◌, ◌≤◌, List, [], ◌∷◌, ◌++◌, length, drop, get_or, Option, Some, None, option_map, refl, sym, ap, ap₂, ◌∙◌, subst, arith, cond, is_some, append_assoc, append-nil}
+use Rattle.std.proofs.lemmas.List.{drop_more, drop_all}
+use Rattle.airy_json.proofs.Common.{ℚ, Key, no_key, Planning, keys_of, Kind, AreOfKind, IsPlanOf, cell_value, first_bad, cell_values, with_value, Gives, cells_answer, bound_answer, AreCells, JsonErr, ReadFault, TooLong, NotJson, Form, Bound, Make, Plan, Cell, NoMemory}
 use Rattle.serde_json.specs.Data.{Items, no_items, item}
 use Rattle.serde_json.specs.View.{view, items_view}
 use Rattle.serde_json.specs.declared.value.Value.{Value}
-use Rattle.airy_json.specs.Reading.{Kind, AreOfKind, IsPlanOf, cell_value, first_bad, cell_values, with_value, Gives, cells_answer, bound_answer}
 use Rattle.airy_json.specs.Given.{IsGiven, Refuses}
-use Rattle.airy_json.specs.Steps.{AreCells, IsBadCell}
-use Rattle.airy_json.specs.declared.refusals.JsonErr.{JsonErr}
-use Rattle.airy_json.specs.declared.refusals.JsonErr.TheVariants.{ReadFault, TooLong, NotJson, Form, Bound, Make, Plan, Cell, NoMemory}
+use Rattle.airy_json.specs.Steps.{IsBadCell}
 use Rattle.airy_json.specs.declared.refusals.JsonErr.TheVariants as json
 
 -- The cells before place p are those of the keys there, with these values.

@@ -6,11 +6,10 @@ use Rattle.std.specs.Str.{is_utf8}
 use Rattle.std.specs.declared.option.Option.{Option}
 use Rattle.serde_json.specs.Data.{Data}
 use Rattle.serde_json.specs.Read.{read}
-use Rattle.airy_json.specs.Reading.{NoJson, Long, form_of, form_answer, data_answer, json_of, answer_of}
+use Rattle.airy_json.proofs.Common.{form_of, form_answer, data_answer, json_of, answer_of, JsonErr, ReadFault, TooLong, NotJson, Form, Bound, Make, Plan, Cell, NoMemory}
+use Rattle.airy_json.specs.Reading.{NoJson, Long}
 use Rattle.airy_json.specs.Given.{IsWhole, Tells}
 use Rattle.airy_json.specs.declared.reading.Given.{Given}
-use Rattle.airy_json.specs.declared.refusals.JsonErr.{JsonErr}
-use Rattle.airy_json.specs.declared.refusals.JsonErr.TheVariants.{ReadFault, TooLong, NotJson, Form, Bound, Make, Plan, Cell, NoMemory}
 use Rattle.airy_json.specs.declared.refusals.JsonErr.TheVariants as json
 
 not_long : (n : ℕ) → n ≤ 16777216 → nat_lt 16777216 n ≡ false
@@ -36,17 +35,3 @@ answer-none bytes h none = short_answer bytes h ∙ by (is_utf8 bytes) refl
 pub answer-long : (bytes : List ℕ) → length bytes ≡ 16777217 → answer_of bytes ≡ Long
 unfolding answer_of
 answer-long bytes e = rw e refl
-
--- an answer in memory is one on the source
-pub whole_tells : (result : Result Given JsonErr) (bytes : List ℕ) (new : Option (List ℕ)) → IsWhole bytes new result → Tells result bytes new
-whole_tells (Ok given) bytes new w = w
-whole_tells (Err ReadFault) bytes new w = tt
-whole_tells (Err TooLong) bytes new w = absurd w.said
-whole_tells (Err NotJson) bytes new w = w
-whole_tells (Err Form) bytes new w = w
-whole_tells (Err json.Kind) bytes new w = w
-whole_tells (Err (Bound got)) bytes new w = w
-whole_tells (Err (Make k)) bytes new w = w
-whole_tells (Err (Plan why)) bytes new w = w
-whole_tells (Err (Cell place)) bytes new w = w
-whole_tells (Err NoMemory) bytes new w = tt

@@ -1,27 +1,15 @@
 -- Given values as outcomes of ranks.
-use Prim.Native.Nat.{ℕ, zero, suc, ◌<◌}
-use mathlib.Core.Path.{◌≡◌, refl, sym, ap, ap₂, ◌∙◌}
-use mathlib.Core.Bool.{Bool, true, false, cond}
-use mathlib.Core.List.{List, [], ◌∷◌, map}
-use native.Mathlib.Omega.{arith}
-use lib.ListN.{length, get_or}
-use Rattle.std.specs.Prelude.{Option, Some, None, slice_index_or}
-use Rattle.airy_math.specs.Rational.{ℚ}
-use Rattle.airy_math.specs.RationalLaws.{0ℚ}
-use Rattle.airy_math.specs.Keys.{Key, remove, times}
-use Rattle.airy_math.specs.Tensors.{Tensors}
-use Rattle.airy_math.specs.Planned.{planned, IsPlanned}
-use Rattle.airy_math.specs.Ranks.{place_of}
-use Rattle.airy_math.specs.Terms.{terms, obtained_pivot_sum}
+use Rattle.std.proofs.Common.{ℕ, zero, suc, ◌<◌, ◌≡◌, refl, sym, ap, ap₂, ◌∙◌, Bool, true, false, cond, List, [], ◌∷◌, map, arith, length, get_or, Option, Some, None, slice_index_or}
+use Rattle.airy_json.proofs.Common.{ℚ, 0ℚ, Key, remove, times, Tensors, planned, IsPlanned, place_of, terms, obtained_pivot_sum, Outcome, Value, Over, has_value, outcome_from, number_at, pivot_outcome, listed, value_of, VerifyEnd, as_table, given_to, said}
 use Rattle.airy_math.proofs.PlanLemmas.{planned_has}
 use Rattle.airy_math.proofs.RankLaw.{place-has}
 use Rattle.amp_plan.specs.Ranked.{AreAllowed}
-use Rattle.amp_terms.specs.declared.Outcome.{Outcome}
-use Rattle.amp_terms.specs.declared.Outcome.TheVariants.{Value, Over}
-use Rattle.amp_terms.specs.Outcomes.{has_value, smaller, value_or_zero, value_in, outcome_from, ranks_named}
-use Rattle.amp_terms.specs.Pivots.{least_without, number_at, pivot_outcome, listed}
-use Rattle.amp_terms.specs.Tables.{value_of}
-use Rattle.airy_json.specs.Verifying.{as_table, given_to}
+use Rattle.amp_terms.specs.Outcomes.{smaller, value_or_zero, value_in, ranks_named}
+use Rattle.amp_terms.specs.Pivots.{least_without}
+use Rattle.constraint_check.specs.declared.pivots.Failure.{Failure}
+use Rattle.airy_json.specs.declared.verify_ends.VerifyEnd.TheVariants as end
+use Rattle.airy_json.specs.Verifying.{Names}
+use Rattle.series_law.proofs.PivotsLaw.{outcome_shown}
 
 pub length-table : (vs : List ℚ) → length (as_table vs) ≡ length vs
 unfolding as_table
@@ -35,43 +23,15 @@ value_listed [] r d h = absurd (omega arith)
 value_listed (v ∷ vs) zero d h = refl
 value_listed (v ∷ vs) (suc r) d h = value_listed vs r d (omega arith)
 
-pub index_is : (vs : List ℚ) (r : ℕ) (d : ℚ) → r < length vs → slice_index_or vs r d ≡ get_or vs r 0ℚ
-unfolding slice_index_or
-index_is [] r d h = absurd (omega arith)
-index_is (v ∷ vs) zero d h = refl
-index_is (v ∷ vs) (suc r) d h = index_is vs r d (omega arith)
-
-has_listed : (vs : List ℚ) (r : ℕ) → r < length vs → has_value (listed (as_table vs) r) ≡ true
+pub has_listed : (vs : List ℚ) (r : ℕ) → r < length vs → has_value (listed (as_table vs) r) ≡ true
 unfolding listed has_value
 has_listed vs r h = ap has_value (value_listed vs r 0ℚ h)
-
-none_without : (shown : ℕ → Outcome) (rs : List ℕ) → AreAllowed (λ r. has_value (shown r) ≡ true) rs → least_without shown rs ≡ None
-unfolding AreAllowed least_without
-none_without shown [] h = refl
-none_without shown (r ∷ rs) h = by (has_value (shown r)) h.0 (none_without shown rs h.1)
-  where
-    by : (b : Bool) → b ≡ true → least_without shown rs ≡ None → cond b (least_without shown rs) (smaller r (least_without shown rs)) ≡ None
-    by true e n = n
-    by false e n = cc
-
-all_listed : (vs : List ℚ) (rs : List ℕ) → AreAllowed (λ r. r < length vs) rs → AreAllowed (λ r. has_value (listed (as_table vs) r) ≡ true) rs
-unfolding AreAllowed
-all_listed vs [] h = tt
-all_listed vs (r ∷ rs) h = (has_listed vs r h.0, all_listed vs rs h.1)
 
 -- The outcome of a key's pivot sum over given values, where the ranks that its terms name have one: nothing blocks it.
 pub outcome_given : (T : Tensors) (X : ℕ) (vs : List ℚ) (key : Key) (i : ℕ) → AreAllowed (λ r. r < length vs) (ranks_named (planned T X) (terms T i key.g (remove i key.idx)))
     → pivot_outcome T (planned T X) (listed (as_table vs)) key i ≡ outcome_from None (obtained_pivot_sum T (given_to T X vs) key i)
-unfolding pivot_outcome given_to value_in number_at listed
-outcome_given T X vs key i h =
-    ap (λ b. outcome_from b (obtained_pivot_sum T (λ k. value_or_zero (get_or (as_table vs) (place_of k (planned T X)) Over)) key i))
-    (none_without (listed (as_table vs)) (ranks_named (planned T X) (terms T i key.g (remove i key.idx))) (all_listed vs _ h))
-
--- the Value of an outcome that nothing blocks is what is obtained
-pub value_none : (s : Option ℚ) → value_of (outcome_from None s) ≡ s
-unfolding value_of outcome_from
-value_none None = refl
-value_none (Some v) = refl
+unfolding given_to value_in number_at listed
+outcome_given T X vs key i h = outcome_shown (λ r. r < length vs) (listed (as_table vs)) (has_listed vs) T (planned T X) key i h
 
 module _ (T : Tensors) (X : ℕ) (vs : List ℚ) (long : length vs ≡ length (planned T X)) (key : Key) (p : IsPlanned T X key) where
   pub rank_within : place_of key (planned T X) < length vs
@@ -84,3 +44,13 @@ module _ (T : Tensors) (X : ℕ) (vs : List ℚ) (long : length vs ≡ length (p
 
   pub given_listed : get_or (as_table vs) (place_of key (planned T X)) Over ≡ Value (given_to T X vs key)
   given_listed = value_listed vs (place_of key (planned T X)) 0ℚ rank_within ∙ ap Value (sym given_is)
+
+-- the end of a key that fails is what is said of it
+pub said_failed : (F : Key → ℚ) (e : VerifyEnd) (f : Failure) → Names e f → f.value ≡ F f.key → said F (Some (f.key, (f.pivot, f.sum))) ≡ e
+unfolding said
+said_failed F end.Solution f n w = absurd n
+said_failed F (end.Over key i) f n w = ap (λ s. said F (Some (f.key, (f.pivot, s)))) n.2 ∙ ap₂ end.Over (sym n.0) (sym n.1)
+said_failed F (end.Differs key i v a) f n w = ap (λ s. said F (Some (f.key, (f.pivot, s)))) n.2 ∙ all (sym n.0) (sym n.1) (sym w ∙ sym n.3)
+  where
+    all : {k k' : Key} {i i' : ℕ} {a a' : ℚ} → k ≡ k' → i ≡ i' → a ≡ a' → end.Differs k i v a ≡ end.Differs k' i' v a'
+    all p q r = cc

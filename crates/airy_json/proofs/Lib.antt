@@ -1,3 +1,4 @@
+pub mod Common
 pub mod CellLemmas
 pub mod DocumentLemmas
 pub mod FormLemmas
@@ -8,8 +9,6 @@ pub mod ReadLaw
 pub mod BackLaw
 pub mod KindLaw
 pub mod GivenLemmas
-pub mod StepLemmas
-pub mod VerifyScan
 pub mod VerifiedLaw
 pub mod SameVerifiedLaw
 pub mod JobVerifiedLaw

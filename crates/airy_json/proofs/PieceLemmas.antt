@@ -1,22 +1,16 @@
 -- The texts of cells, of arrays and of the document, part by part.
-use Rattle.std.proofs.Common.{◌≡◌, ℕ, zero, suc, ◌+◌, ◌<◌, ◌≤◌, false, true, List, [], ◌∷◌, ◌++◌, length, drop, get_or, Option, Some, None, Result, Ok, Err, OnOk, ◌⊎◌, inl, inr, refl, sym, ap, ap₂, ◌∙◌, subst, arith, append_assoc}
-use Rattle.std.specs.Prelude.{decimal, codes, nat_lt}
+use Rattle.std.proofs.Common.{◌≡◌, ℕ, zero, suc, ◌+◌, ◌<◌, ◌≤◌, false, true, List, [], ◌∷◌, ◌++◌, length, drop, get_or, Option, Some, None, Result, Ok, Err, OnOk, ◌⊎◌, inl, inr, refl, sym, ap, ap₂, ◌∙◌, subst, arith, append_assoc, decimal, codes, nat_lt, lt-ltb}
 use Rattle.std.proofs.lemmas.List.{drop_more, drop_all}
-use Rattle.std.proofs.lemmas.Bool.{lt-ltb, cases_lt}
+use Rattle.std.proofs.lemmas.Bool.{cases_lt}
 use Rattle.json.specs.Print.{escape_byte, escape, quoted}
 use Rattle.json.proofs.Printed.Strings.{escape_byte_plain}
 use Rattle.serde_json.specs.Data.{Data, number, unsigned, Items, no_items, item}
 use Rattle.serde_json.specs.Written.{compact_text, items_text, comma_if}
-use Rattle.airy_math.specs.Rational.{ℚ}
-use Rattle.airy_math.specs.Obtained.{IsInRange}
-use Rattle.airy_math.specs.Keys.{Key}
-use Rattle.airy_math.specs.Ranks.{no_key, key_at}
-use Rattle.frac128.specs.Fraction.{fraction_text}
+use Rattle.airy_json.proofs.Common.{ℚ, IsInRange, Key, no_key, key_at, fraction_text, Outcome, Value, Over, value_of, indices_data, cell_data, cells_data, document_data, document_text, value_in, values_in}
 use Rattle.tensor_text.proofs.PlainLemmas.{ArePlain}
-use Rattle.amp_terms.specs.declared.Outcome.{Outcome}
-use Rattle.amp_terms.specs.declared.Outcome.TheVariants.{Value, Over, Blocked}
-use Rattle.amp_terms.specs.Tables.{first_without, next_rank, value_of, value_of_cell, value_at}
-use Rattle.airy_json.specs.Document.{indices_data, cell_data, cells_data, document_data, document_text, value_in, values_in}
+use Rattle.amp_terms.specs.declared.Outcome.TheVariants.{Blocked}
+use Rattle.amp_terms.specs.Tables.{first_without, next_rank, value_of_cell, value_at}
+use Rattle.series_law.proofs.TableRanks.{never_next}
 
 -- ---- a cell
 
@@ -79,11 +73,6 @@ pub length-values : (cells : List (Option Outcome)) → length (values_in cells)
 unfolding values_in
 length-values [] = refl
 length-values (cell ∷ cells) = ap suc (length-values cells)
-
-never_next : (o : Option ℕ) → next_rank o ≡ None → o ≡ None
-unfolding next_rank
-never_next None e = refl
-never_next (Some r) e = cc
 
 pub some_value : (cells : List (Option Outcome)) (r : ℕ) → first_without cells ≡ None → r < length cells → value_at cells r ≡ Some (value_in cells r)
 unfolding first_without value_at value_in value_of_cell value_of

@@ -1,18 +1,13 @@
 -- The limits of a kind's plan.
 use Rattle.std.proofs.Common.{◌≡◌, ◌⊎◌, inl, inr, ℕ, ◌<◌, ◌≤◌, nat_le, ◌&&◌, true, false, Some, None, refl, sym, ap, ◌∙◌, arith}
 use Rattle.std.proofs.lemmas.Bool.Decides.{nat_tests}
-use Rattle.airy_math.specs.declared.Family.TheVariants.{Wk, Bgw, Wp}
-use Rattle.sparse_tensor.specs.Entries.{Entries, looked_up}
-use Rattle.airy_math.specs.BelowDim.{BelowDimLaw}
-use Rattle.airy_math.specs.Planned.{planned}
-use Rattle.amp_plan.specs.Plans.{Planning, tensors_of, keys_of}
-use Rattle.amp_plan.specs.Limits.{limit, limit_of, Within, Tells}
-use Rattle.amp_plan.specs.SameLimits.{SameLimitsLaw}
+use Rattle.airy_json.proofs.Common.{Wk, Bgw, Wp, Entries, looked_up, BelowDimLaw, planned, Planning, tensors_of, keys_of, limit, limit_of, Within, SameLimitsLaw, Kind, named, text, AreOfKind, kind_tensors, making_over, made_answer, plan_answer, bound_answer, cells_answer, cell_values, first_bad, Unmade}
+use Rattle.amp_plan.specs.Limits.{Tells}
 use Rattle.amp_plan.specs.declared.cause.PlanCause.{PlanCause}
 use Rattle.amp_plan.specs.declared.cause.PlanCause.TheVariants.{Bound, Cells, Edges, NoMemory}
 use Rattle.amp_plan.proofs.LimitLemmas.{limit-memory}
 use Rattle.serde_json.specs.Data.{Items}
-use Rattle.airy_json.specs.Reading.{Kind, named, text, AreOfKind, kind_tensors, making_over, made_answer, plan_answer, bound_answer, cells_answer, cell_values, first_bad, Unmade, BadBound}
+use Rattle.airy_json.specs.Reading.{BadBound}
 use Rattle.airy_json.specs.Given.{Passes}
 
 -- the plan that is made of stored tensors

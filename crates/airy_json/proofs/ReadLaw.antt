@@ -1,6 +1,5 @@
 -- The text of a document is read as the document.
-use Rattle.std.proofs.Common.{◌≡◌, ℕ, suc, ◌^◌, ◌<◌, ◌≤◌, List, [], ◌∷◌, ◌++◌, length, Option, Some, option_and_then, refl, sym, ap, ◌∙◌, arith, append-nil}
-use Rattle.std.specs.Prelude.{codes}
+use Rattle.std.proofs.Common.{◌≡◌, ℕ, suc, ◌^◌, ◌<◌, ◌≤◌, List, [], ◌∷◌, ◌++◌, length, Option, Some, option_and_then, refl, sym, ap, ◌∙◌, arith, append-nil, codes}
 use Rattle.std.specs.List.{AllByRecursion}
 use Rattle.json.specs.Json as json
 use Rattle.json.specs.Token.{Token}
@@ -13,10 +12,7 @@ use Rattle.serde_json.specs.Read.{of_json, of_items, read, max_depth}
 use Rattle.serde_json.specs.Written.{outline, items_outline, compact_text}
 use Rattle.serde_json.proofs.Numbers.{number_of-decimal}
 use Rattle.serde_json.proofs.Texts.{print-outline}
-use Rattle.airy_math.specs.Rational.{ℚ}
-use Rattle.airy_math.specs.Keys.{Key}
-use Rattle.airy_math.specs.Ranks.{key_at}
-use Rattle.airy_json.specs.Document.{indices_data, cell_data, cells_data, document_data, document_text}
+use Rattle.airy_json.proofs.Common.{ℚ, Key, key_at, indices_data, cell_data, cells_data, document_data, document_text}
 use Rattle.airy_json.proofs.LineLaw.{tokens-line}
 
 -- the JSON of these data is read as the data, and nests no deeper than n

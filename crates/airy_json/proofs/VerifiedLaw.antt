@@ -1,25 +1,15 @@
 -- Given values that pass every pivot are a solution; and where a sum is another number, their series is none.
-use Prim.Native.Nat.{ℕ, zero, suc, ◌+◌, ◌<◌, ◌≤◌}
-use mathlib.Core.Path.{◌≡◌, refl, sym, ap, ap₂, subst, ◌∙◌}
-use mathlib.Core.List.{[], List, ◌∷◌, ◌++◌, map}
-use mathlib.Core.Logic.{◌⊎◌, inl, inr}
-use native.Mathlib.Omega.{arith}
-use lib.IntN.{pos}
-use lib.ListN.{length, get_or}
-use Rattle.std.proofs.lemmas.List.{length-append}
+use Rattle.std.proofs.Common.{◌↔◌, Option, append-nil, ℕ, zero, suc, ◌+◌, ◌<◌, ◌≤◌, ◌≡◌, refl, sym, ap, ap₂, subst, ◌∙◌, [], List, ◌∷◌, ◌++◌, map, ◌⊎◌, inl, inr, arith, pos, length, get_or, length-append, Some, None}
 use Rattle.std.proofs.Math.ListN.{get_or-append}
 use Rattle.std.proofs.Math.Seq.{get_or-append_seam}
-use Rattle.std.specs.Prelude.{Some, None}
-use Rattle.airy_math.specs.Rational.{ℚ, ◌*ℚ◌, ◌/ℚ◌, whole}
-use Rattle.airy_math.specs.RationalLaws.{0ℚ, 1ℚ, 0ℚ-*ℚ, 1ℚ_idl, *ℚ_comm, *ℚ_assoc, inverse_lem}
-use Rattle.airy_math.specs.Keys.{Key, times, head_or, key_of, remove, indices, indices_from, exponents}
-use Rattle.airy_math.specs.Tensors.{Tensors, IsSymmetric, IsGraded}
-use Rattle.airy_math.specs.Planned.{planned, IsPlanned}
-use Rattle.airy_math.specs.Ranks.{place_of, key_at, no_key}
-use Rattle.airy_math.specs.Terms.{terms, needs, pivot_sum, StandsIn}
+use Rattle.airy_json.proofs.Common.{ℚ, 0ℚ, 1ℚ, Key, times, remove, Tensors, IsSymmetric, IsGraded, planned, IsPlanned, place_of, key_at, no_key, terms, obtained_pivot_sum, letter_of, power, power_none, Outcome, Value, Over, has_value, outcome_from, listed, pivot_outcome, series_with, every, VerifyEnd, as_table, given_to, said, verified, Says}
+use Rattle.airy_math.specs.Rational.{◌*ℚ◌, ◌/ℚ◌, whole}
+use Rattle.airy_math.specs.RationalLaws.{0ℚ-*ℚ, 1ℚ_idl, *ℚ_comm, *ℚ_assoc, inverse_lem}
+use Rattle.airy_math.specs.Keys.{head_or, key_of, indices, indices_from, exponents}
+use Rattle.airy_math.specs.Terms.{needs, pivot_sum, StandsIn}
 use Rattle.airy_math.specs.Series.{Series}
 use Rattle.airy_math.specs.Solutions.{Solves, amplitude, factorials}
-use Rattle.airy_math.specs.Cuts.{IsCut, letter_of, outer, if_none, power}
+use Rattle.airy_math.specs.Cuts.{IsCut, outer, if_none}
 use Rattle.airy_math.proofs.SumLemmas.{*ℚ-0ℚ}
 use Rattle.airy_math.proofs.KeyLemmas.{Ascending, AllBelow, below_by}
 use Rattle.airy_math.proofs.ConstraintLemmas.{factorials_pos}
@@ -28,53 +18,69 @@ use Rattle.airy_math.proofs.SolutionLaw.{amp, amplitude_law, indices_again}
 use Rattle.airy_math.proofs.PlannedLaw.{head_stands, ascending, small}
 use Rattle.airy_math.proofs.RankLaw.{plan_law, ranks_in_order}
 use Rattle.airy_math.proofs.CutLaw.{weight_of, Known, pivot_cut, stands_below}
-use Rattle.airy_math.proofs.ExactLaw.{outer-none, self_cut, power-one}
+use Rattle.airy_math.proofs.ExactLaw.{outer-none, self_cut, power-one, if_none_zero}
 use Rattle.airy_math.proofs.ObtainedLaw.{pivot_exact}
-use Rattle.airy_math.proofs.PowerLemmas.{times_same, power_none}
-use Rattle.amp_terms.specs.declared.Outcome.{Outcome}
-use Rattle.amp_terms.specs.declared.Outcome.TheVariants.{Value, Over}
-use Rattle.amp_terms.specs.Outcomes.{value_in, has_value, outcome_from, outcome_of, outcomes, outcomes_after}
-use Rattle.amp_terms.specs.Pivots.{listed, pivot_outcome}
+use Rattle.airy_math.proofs.PowerLemmas.{times_same}
+use Rattle.amp_terms.specs.Outcomes.{value_in, outcome_of, outcomes, outcomes_after}
 use Rattle.amp_terms.proofs.FillingLemmas.{outcome_is}
 use Rattle.amp_terms.proofs.NamedLemmas.{allowed_places}
 use Rattle.amp_terms.proofs.OutcomeLemmas.{pivot-same}
 use Rattle.series_law.specs.Uniqueness.{series_of}
-use Rattle.series_law.specs.Pivots.{AllPivots, series_with}
+use Rattle.series_law.specs.Pivots.{AllPivots}
 use Rattle.series_law.specs.Check.{check}
 use Rattle.series_law.specs.Check as verdict
-use Rattle.series_law.specs.First.{HaveValues, IsOther, Passes, PassesAll, IsFirst}
+use Rattle.series_law.specs.First.{HaveValues, IsFirst}
+use Rattle.series_law.specs.Scans.{Failing, failing_key, Agrees, IsLooked, IsFirstFailing}
+use Rattle.series_law.proofs.ScansLaw.{finds_first}
 use Rattle.series_law.proofs.FirstLaw.{first_finding}
-use Rattle.series_law.proofs.PivotsLaw.{converse}
+use Rattle.series_law.proofs.PivotsLaw.{converse, pivot_weighed, one_some}
 use Rattle.series_law.proofs.TableRanks.{value_only}
 use Rattle.series_law.proofs.UniquenessLaw.{uniqueness}
-use Rattle.airy_json.specs.declared.verify_ends.VerifyEnd.TheVariants.{Solution, Differs}
-use Rattle.airy_json.specs.Verifying.{as_table, given_to, verified}
-use Rattle.airy_json.specs.Verified.{Holds, HoldsAll, IsFirstFailure, AreSolution, Says, VerifiedLaw, values_series}
-use Rattle.airy_json.proofs.GivenLemmas.{length-table, value_listed, outcome_given, rank_within, given_is, given_listed}
-use Rattle.airy_json.proofs.VerifyScan.{first_failure}
+use Rattle.airy_json.specs.declared.verify_ends.VerifyEnd.TheVariants as end
+use Rattle.airy_json.specs.Verified.{IsFirstFailure, AreSolution, VerifiedLaw, values_series}
+use Rattle.airy_json.proofs.GivenLemmas.{has_listed, length-table, value_listed, outcome_given, rank_within, given_is, given_listed}
+use Rattle.airy_math.proofs.EachLemmas.{append_assoc}
+use Rattle.series_law.proofs.JobLaw.{one_times, without_letter}
+
+-- ---- what is found is the first failure, and there is exactly one
+
+first_failure : (T : Tensors) (X : ℕ) (vs : List ℚ) (e : VerifyEnd) → (verified T X vs ≡ e) ↔ IsFirstFailure T X vs e
+unfolding verified said IsFirstFailure
+first_failure T X vs e = (λ h. subst (IsFirstFailure T X vs) h (first found ((finds_first T X F every found).0 refl)), only e)
+  where
+    F : Key → ℚ
+    F = given_to T X vs
+
+    found : Option (Key × Failing)
+    found = failing_key T F every (planned T X)
+
+    first : (f : Option (Key × Failing)) → IsFirstFailing T X F every f → IsFirstFailure T X vs (said F f)
+    first None h = h
+    first (Some (key, (i, None))) h = h
+    first (Some (key, (i, Some v))) h = (h, refl)
+
+    is : (f : Option (Key × Failing)) → IsFirstFailing T X F every f → said F found ≡ said F f
+    is f h = ap (said F) ((finds_first T X F every f).1 h)
+
+    only : (e : VerifyEnd) → IsFirstFailure T X vs e → said F found ≡ e
+    only end.Solution h = is None h
+    only (end.Over key i) h = is (Some (key, (i, None))) h
+    only (end.Differs key i v w) h = is (Some (key, (i, Some v))) h.0 ∙ ap (end.Differs key i v) (sym h.1)
 
 -- ---- values that pass every pivot
-
-append_assoc : {A : Type 0} (xs ys zs : List A) → (xs ++ ys) ++ zs ≡ xs ++ (ys ++ zs)
-append_assoc [] ys zs = refl
-append_assoc (x ∷ xs) ys zs = ap (λ t. x ∷ t) (append_assoc xs ys zs)
-
-append_none : {A : Type 0} (xs : List A) → xs ++ [] ≡ xs
-append_none [] = refl
-append_none (x ∷ xs) = ap (λ t. x ∷ t) (append_none xs)
 
 table_push : (us : List ℚ) (w : ℚ) → as_table us ++ (Value w ∷ []) ≡ as_table (us ++ (w ∷ []))
 unfolding as_table
 table_push [] w = refl
 table_push (u ∷ us) w = ap (λ t. Value u ∷ t) (table_push us w)
 
-module _ (T : Tensors) (X : ℕ) (vs : List ℚ) (long : length vs ≡ length (planned T X)) (holds : (key : Key) → IsPlanned T X key → HoldsAll T X vs key) where
+module _ (T : Tensors) (X : ℕ) (vs : List ℚ) (long : length vs ≡ length (planned T X)) (holds : (key : Key) → IsPlanned T X key → (i : ℕ) → 0 < times i key.idx → obtained_pivot_sum T (given_to T X vs) key i ≡ Some (given_to T X vs key)) where
   abbrev plan : List Key
   plan = planned T X
 
   -- the outcome of a key over the values of the ranks below it is its value
   outcome_value : (us ws : List ℚ) → vs ≡ us ++ ws → (key : Key) → IsPlanned T X key → place_of key plan ≡ length us → outcome_of T plan (as_table us) key ≡ Value (given_to T X vs key)
-  unfolding needs Holds HoldsAll listed outcome_from
+  unfolding needs listed outcome_from
   outcome_value us ws q key p r =
       outcome_is T plan (as_table us) key
       ∙ pivot-same (listed (as_table us)) (listed (as_table vs)) plan T key i (allowed_places (λ r. listed (as_table us) r ≡ listed (as_table vs) r) plan (terms T i key.g (remove i key.idx)) (λ k s. front (place_of k plan) (lower k s)))
@@ -97,7 +103,7 @@ module _ (T : Tensors) (X : ℕ) (vs : List ℚ) (long : length vs ≡ length (p
 
   after : (us ws : List ℚ) (pre keys : List Key) → plan ≡ pre ++ keys → vs ≡ us ++ ws → length us ≡ length pre → length ws ≡ length keys → outcomes_after T plan (as_table us) keys ≡ as_table vs
   unfolding outcomes_after key_at
-  after us [] pre [] p q l m = ap as_table (sym (append_none us) ∙ sym q)
+  after us [] pre [] p q l m = ap as_table (sym (append-nil us) ∙ sym q)
   after us [] pre (key ∷ keys) p q l m = absurd (omega arith)
   after us (w ∷ ws) pre [] p q l m = absurd (omega arith)
   after us (w ∷ ws) pre (key ∷ keys) p q l m =
@@ -125,16 +131,16 @@ module _ (T : Tensors) (X : ℕ) (vs : List ℚ) (long : length vs ≡ length (p
   same_table = after [] vs [] plan refl refl refl long
 
   all_pivots : AllPivots T X (as_table vs)
-  unfolding given_to HoldsAll Holds
+  unfolding given_to
   all_pivots = record {
     long = length-table vs ∙ long;
     pivots = λ key p i s. (given_to T X vs key, given_listed T X vs long key p, sym (pivot_exact T (given_to T X vs) key i (given_to T X vs key) (holds key p i s)));
   }
 
   nothing_found : check T X (outcomes T X) ≡ verdict.Solution
-  unfolding IsFirst HaveValues PassesAll Passes IsOther given_to HoldsAll Holds has_value
+  unfolding IsFirst HaveValues IsFirstFailing IsLooked Agrees given_to has_value as_table listed
   nothing_found = subst (λ t. check T X t ≡ verdict.Solution) (sym same_table) ((first_finding T X (as_table vs) verdict.Solution).1 (
-    (λ s l. ap has_value (value_listed vs s 0ℚ (omega (arith, l, length-table vs)))),
+    (λ s l. has_listed vs s (omega (arith, l, length-table vs))),
     (λ key p i o. holds key p i o.0),
   ))
 
@@ -155,11 +161,7 @@ back : (n : ℕ) → 0 < n → (x : ℚ) → whole n *ℚ (x *ℚ (pos 1 /ℚ n)
 unfolding whole
 back n h x = sym (*ℚ_assoc _ _ _) ∙ ap (λ t. t *ℚ (pos 1 /ℚ n)) (*ℚ_comm _ _) ∙ *ℚ_assoc _ _ _ ∙ ap (λ t. x *ℚ t) (inverse_lem n h) ∙ *ℚ_comm _ _ ∙ 1ℚ_idl _
 
-if_none_zero : (x : ℚ) → if_none 0 x ≡ x
-unfolding if_none
-if_none_zero x = refl
-
--- Where the series of a table solves the greater tensors, each pivot sum over the table is the table's number, times the letter's power.
+-- Where the series of a table solves the greater tensors, its amplitudes are the table's numbers times the keys' weights.
 module _ (X : ℕ) (v : ℚ) (T T' : Tensors) (gr : IsGraded T) (sy' : IsSymmetric T') (gr' : IsGraded T') (cut : IsCut X v T T')
     (table : List Outcome) (long : length table ≡ length (planned T X)) (so : Solves T' X (series_with v T X table)) where
   abbrev F : Key → ℚ
@@ -186,52 +188,33 @@ module _ (X : ℕ) (v : ℚ) (T T' : Tensors) (gr : IsGraded T) (sy' : IsSymmetr
       by (suc n) e (inl z) = ap (λ t. y *ℚ t) z ∙ *ℚ-0ℚ _ ∙ sym (0ℚ-*ℚ _)
       by (suc n) e (inr p) = absurd (omega (arith, sym e ∙ outer-none T.dim J (small 0 T.dim J p.sorted)))
 
-  pub pivot_at : (key : Key) → IsPlanned T X key → (i : ℕ) → 0 < times i key.idx → power v (letter_of T.shape key) *ℚ F key ≡ power v (letter_of T.shape key) *ℚ pivot_sum T F key i
-  unfolding key_of weight_of
-  pivot_at key p i st =
-      sym (amp_is key.g key.idx s b)
-      ∙ amplitude_law T' X (series_with v T X table) sy' gr' so key.g i key.idx s b st (stands_below T'.dim i key.idx b st) p.positive p.within
-      ∙ pivot_cut X v T T' gr cut F F' X known key.g i key.idx s b st (omega (arith, p.within)) p.within
-      ∙ ap (λ n. if_none n (power v (letter_of T.shape key)) *ℚ pivot_sum T F key i) (outer-none T.dim key.idx (small 0 T.dim key.idx p.sorted))
-      ∙ ap (λ t. t *ℚ pivot_sum T F key i) (if_none_zero (power v (letter_of T.shape key)))
-    where
-      s : Ascending 0 key.idx
-      s = ascending 0 T.dim key.idx p.sorted
-
-      b : AllBelow T'.dim key.idx
-      b = below_by T.dim T'.dim key.idx cut.wider (small 0 T.dim key.idx p.sorted)
-
 -- so the values' series solves no greater tensors where a pivot sum differs and the letter's power there isn't 0
 pub none_greater : (X : ℕ) (v : ℚ) (T T' : Tensors) → IsGraded T → IsSymmetric T' → IsGraded T' → IsCut X v T T' → (vs : List ℚ) → length vs ≡ length (planned T X)
-    → (key : Key) (i : ℕ) (a b : ℚ) → verified T X vs ≡ Differs key i a b → (power v (letter_of T.shape key) ≡ 0ℚ → ⊥) → Solves T' X (series_with v T X (as_table vs)) → ⊥
-unfolding IsFirstFailure given_to
+    → (key : Key) (i : ℕ) (a b : ℚ) → verified T X vs ≡ end.Differs key i a b → (power v (letter_of T.shape key) ≡ 0ℚ → ⊥) → Solves T' X (series_with v T X (as_table vs)) → ⊥
+unfolding IsFirstFailure IsFirstFailing IsLooked given_to key_of
 none_greater X v T T' gr sy' gr' cut vs long key i a b e some so =
-    let f = (first_failure T X vs (Differs key i a b)).0 e in
-    f.3 (pivot_exact T (given_to T X vs) key i a f.1
-    ∙ sym (times_same (power v (letter_of T.shape key)) _ _ some (pivot_at X v T T' gr sy' gr' cut (as_table vs) (length-table vs ∙ long) so key f.0.planned i f.0.stands))
-    ∙ sym f.2)
+    let f = (first_failure T X vs (end.Differs key i a b)).0 e in let up = f.0.0 in
+    f.0.2 (ap Some (pivot_exact T (given_to T X vs) key i a f.0.1 ∙ sym (times_same (power v (letter_of T.shape key)) _ _ some (own key up.planned ∙ weighed key up.planned i up.looked.0))))
+  where
+    long_table : length (as_table vs) ≡ length (planned T X)
+    long_table = length-table vs ∙ long
 
-one_times : (e : ℕ) (w : ℚ) → power 1ℚ e *ℚ w ≡ w
-one_times e w = ap (λ t. t *ℚ w) (power-one e) ∙ 1ℚ_idl w
+    own : (key : Key) → IsPlanned T X key → power v (letter_of T.shape key) *ℚ given_to T X vs key ≡ amp T' X (series_with v T X (as_table vs)) sy' gr' so key
+    own key p = sym (amp_is X v T T' gr sy' gr' cut (as_table vs) long_table so key.g key.idx (ascending 0 T.dim key.idx p.sorted) (below_by T.dim T'.dim key.idx cut.wider (small 0 T.dim key.idx p.sorted)))
 
-without_letter : (T : Tensors) (X : ℕ) (table : List Outcome) → series_with 1ℚ T X table ≡ series_of T X table
-unfolding series_with series_of
-without_letter T X table = λ j g e. one_times (letter_of T.shape (key_of g (indices e))) (value_in (planned T X) table (key_of g (indices e))) j *ℚ (pos 1 /ℚ factorials e)
-
-one_some : (e : ℕ) → power 1ℚ e ≡ 0ℚ → ⊥
-unfolding power
-one_some e z = power_none 1ℚ 0 refl (sym (power-one e) ∙ z)
+    weighed : (key : Key) → IsPlanned T X key → (i : ℕ) → 0 < times i key.idx → amp T' X (series_with v T X (as_table vs)) sy' gr' so key ≡ power v (letter_of T.shape key) *ℚ pivot_sum T (given_to T X vs) key i
+    weighed = pivot_weighed X v T T' gr sy' gr' cut (series_with v T X (as_table vs)) so (given_to T X vs) (known X v T T' gr sy' gr' cut (as_table vs) long_table so)
 
 none_here : (T : Tensors) (X : ℕ) (vs : List ℚ) → IsSymmetric T → IsGraded T → length vs ≡ length (planned T X)
-    → (key : Key) (i : ℕ) (a b : ℚ) → verified T X vs ≡ Differs key i a b → Solves T X (values_series T X vs) → ⊥
+    → (key : Key) (i : ℕ) (a b : ℚ) → verified T X vs ≡ end.Differs key i a b → Solves T X (values_series T X vs) → ⊥
 unfolding values_series
 none_here T X vs sy gr long key i a b e so =
     none_greater X 1ℚ T T gr sy gr (self_cut T X) vs long key i a b e (one_some (letter_of T.shape key)) (subst (Solves T X) (sym (without_letter T X (as_table vs))) so)
 
 pub verified_law : VerifiedLaw
-unfolding IsFirstFailure
+unfolding IsFirstFailure IsFirstFailing IsLooked Agrees every
 verified_law T X vs sy gr long = record {
   first = first_failure T X vs;
-  solution = λ h. solved T X vs long ((first_failure T X vs Solution).0 h) sy gr;
+  solution = λ h. solved T X vs long (λ key p i s. (first_failure T X vs end.Solution).0 h key p i (s, refl)) sy gr;
   no_solution = none_here T X vs sy gr long;
 }

@@ -6,5 +6,4 @@ pub mod Reading
 pub mod Steps
 pub mod Written
 pub mod Verifying
-pub mod VerifySteps
 pub mod Verified

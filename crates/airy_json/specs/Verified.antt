@@ -1,18 +1,16 @@
 -- What the end of verifying given values says of them, of the solutions of the constraints, and of those of a job.
 use Prim.Native.Nat.{ℕ, ◌<◌, ◌≤◌}
 use mathlib.Core.Path.{◌≡◌}
-use mathlib.Core.Bool.{true}
 use mathlib.Core.List.{List}
 use mathlib.Core.Logic.{◌↔◌}
 use lib.ListN.{length, get_or}
 use Rattle.std.specs.Prelude.{Some, None}
 use Rattle.airy_math.specs.Rational.{ℚ}
 use Rattle.airy_math.specs.RationalLaws.{0ℚ}
-use Rattle.airy_math.specs.Keys.{Key, before, times}
+use Rattle.airy_math.specs.Keys.{Key}
 use Rattle.airy_math.specs.Tensors.{Tensors, IsSymmetric, IsGraded, SameEntries}
-use Rattle.airy_math.specs.Planned.{planned, IsPlanned}
+use Rattle.airy_math.specs.Planned.{planned}
 use Rattle.airy_math.specs.Ranks.{key_at}
-use Rattle.airy_math.specs.Terms.{obtained_pivot_sum}
 use Rattle.airy_math.specs.Series.{Series}
 use Rattle.airy_math.specs.Solutions.{Solves, amplitude}
 use Rattle.airy_math.specs.Cuts.{letter_of}
@@ -21,6 +19,7 @@ use Rattle.amp_plan.specs.Plans.{Planning, tensors_of}
 use Rattle.amp_terms.specs.Outcomes.{outcomes}
 use Rattle.series_law.specs.Uniqueness.{series_of}
 use Rattle.series_law.specs.Pivots.{AllPivots, Shown, series_with}
+use Rattle.series_law.specs.Scans.{IsFirstFailing, every}
 use Rattle.series_law.specs.Check.{check}
 use Rattle.series_law.specs.Check as verdict
 use Rattle.airy_json.specs.declared.verify_ends.VerifyEnd.{VerifyEnd}
@@ -29,27 +28,12 @@ use Rattle.airy_json.specs.Verifying.{as_table, given_to, verified}
 
 -- ---- the first pivot that fails, said without the order of the steps
 
--- with the pivot i the key's sum is obtained, and is the key's value
-unfoldable pub Holds : Tensors → ℕ → List ℚ → Key → ℕ → Type 0
-Holds T X vs key i = obtained_pivot_sum T (given_to T X vs) key i ≡ Some (given_to T X vs key)
-
--- so it is with each of its indices
-unfoldable pub HoldsAll : Tensors → ℕ → List ℚ → Key → Type 0
-HoldsAll T X vs key = (i : ℕ) → 0 < times i key.idx → Holds T X vs key i
-
--- All that comes before the pivot i of the planned key holds: the keys before it, in the order of the plan, and its lesser indices.
-pub record HoldsUpTo (T : Tensors) (X : ℕ) (vs : List ℚ) (key : Key) (i : ℕ) : Type 0 where
-  pub planned : IsPlanned T X key
-  pub stands : 0 < times i key.idx
-  pub keys : (k : Key) → IsPlanned T X k → before k key ≡ true → HoldsAll T X vs k
-  pub pivots : (j : ℕ) → 0 < times j key.idx → j < i → Holds T X vs key j
-
 -- The end names the first failure: there is none; or at this pivot the sum isn't obtained; or it is v, and the key's value is another, w.
 unfoldable pub IsFirstFailure : Tensors → ℕ → List ℚ → VerifyEnd → Type 0
-IsFirstFailure T X vs Solution = (key : Key) → IsPlanned T X key → HoldsAll T X vs key
-IsFirstFailure T X vs (Over key i) = HoldsUpTo T X vs key i × (obtained_pivot_sum T (given_to T X vs) key i ≡ None)
+IsFirstFailure T X vs Solution = IsFirstFailing T X (given_to T X vs) every None
+IsFirstFailure T X vs (Over key i) = IsFirstFailing T X (given_to T X vs) every (Some (key, (i, None)))
 IsFirstFailure T X vs (Differs key i v w) =
-    HoldsUpTo T X vs key i × (obtained_pivot_sum T (given_to T X vs) key i ≡ Some v) × (w ≡ given_to T X vs key) × (v ≡ w → ⊥)
+    IsFirstFailing T X (given_to T X vs) every (Some (key, (i, Some v))) × (w ≡ given_to T X vs key)
 
 -- ---- what an end says
 
@@ -78,7 +62,8 @@ pub record Says (T : Tensors) (X : ℕ) (vs : List ℚ) (end : VerifyEnd) : Type
   pub no_solution : (key : Key) (i : ℕ) (v w : ℚ) → end ≡ Differs key i v w → Solves T X (values_series T X vs) → ⊥
 
 abbrev pub VerifiedLaw : Type 0
-VerifiedLaw = (T : Tensors) (X : ℕ) (vs : List ℚ) → IsSymmetric T → IsGraded T → length vs ≡ length (planned T X) → Says T X vs (verified T X vs)
+VerifiedLaw =
+    (T : Tensors) (X : ℕ) (vs : List ℚ) → IsSymmetric T → IsGraded T → length vs ≡ length (planned T X) → Says T X vs (verified T X vs)
 
 -- The end tells what the definition finds in the values of a plan's keys.
 pub record IsVerified (p : Planning) (vs : List ℚ) (end : VerifyEnd) : Type 0 where
@@ -104,11 +89,14 @@ pub record AreNoSolution (s : Structure) (X e : ℕ) (vs : List ℚ) : Type 0 wh
 -- What verifying the values of a job's keys says of the job's solutions, at every dim and fraction.
 pub record JobVerified (s : Structure) (X : ℕ) (vs : List ℚ) : Type 0 where
   pub here : Says (planned_tensors s X) X vs (verified (planned_tensors s X) X vs)
-  pub solved : verified (planned_tensors s X) X vs ≡ Solution → (m : ℕ) (v : ℚ) → (planned_tensors s X).dim ≤ m → IsSolutionOf s X m v (job_series s X v vs)
+  pub solved : verified (planned_tensors s X) X vs ≡ Solution → (m : ℕ) (v : ℚ) → (planned_tensors s X).dim ≤ m
+      → IsSolutionOf s X m v (job_series s X v vs)
   pub unique : verified (planned_tensors s X) X vs ≡ Solution → (m : ℕ) (v : ℚ) (f : Series) → IsSolutionOf s X m v f
       → Shown X (letter_value s v) (planned_tensors s X) (tensors_at s m v) (as_table vs) f
   pub nowhere : (key : Key) (i : ℕ) (a b : ℚ) → verified (planned_tensors s X) X vs ≡ Differs key i a b
       → AreNoSolution s X (letter_of (planned_tensors s X).shape key) vs
 
 abbrev pub JobVerifiedLaw : Type 0
-JobVerifiedLaw = (s : Structure) (X : ℕ) → IsSound s → 0 < X → (vs : List ℚ) → length vs ≡ length (planned (planned_tensors s X) X) → JobVerified s X vs
+JobVerifiedLaw =
+    (s : Structure) (X : ℕ) → IsSound s → 0 < X → (vs : List ℚ) → length vs ≡ length (planned (planned_tensors s X) X)
+    → JobVerified s X vs

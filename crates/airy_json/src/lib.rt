@@ -8,7 +8,6 @@ mod kinds;
 mod reading;
 mod refusals;
 mod verify_ends;
-mod verify_pivots;
 mod verifying;
 mod writing;
 

@@ -1,11 +1,12 @@
 ghost use Rattle.std.specs.Prelude.{◌≡◌, length};
 ghost use Rattle.amp_plan.specs.Plans.{tensors_of, keys_of};
 ghost use Rattle.airy_json.specs.Verified.{IsVerified, JobVerifiedLaw, SameVerifiedLaw, VerifiedLaw};
-ghost use Rattle.airy_json.specs.Verifying.{verified};
+ghost use Rattle.airy_json.specs.Verifying.{verified, Names};
 
 use crate::VerifyEnd;
-use crate::verify_pivots::{PivotsEnd, verify_pivots};
 use amp_plan::Plan;
+use amp_terms::{Outcome, Seen};
+use constraint_check::{Failure, Pivots, first_failing};
 use frac128::Frac;
 
 /// Whether values, one for each rank of the plan, are those of a solution of the constraints of the plan's tensors. In the recursion of
@@ -31,25 +32,63 @@ fn first_failure(plan: &Plan, values: &[Frac]) -> VerifyEnd
     requires { length values.now ≡ length (keys_of plan.now) }
     ensures { result ≡ verified (tensors_of plan.now) plan.now.bound values.now }
 {
-    plan.limits_fact();
-    airy_math::planned_once();
-    for rank in 0..plan.len() {
-        let key = plan.key(rank);
-        let given = values[rank as usize];
-        match verify_pivots(plan, values, &key, given) {
-            PivotsEnd::Agree => {}
-            PivotsEnd::Over { pivot } => return VerifyEnd::Over { key, pivot },
-            PivotsEnd::Differ { pivot, sum } => {
-                return VerifyEnd::Differs {
-                    key,
-                    pivot,
-                    sum,
-                    given,
-                };
-            }
-        }
+    match first_failing(
+        plan,
+        &mut GivenValues { values },
+        0,
+        plan.len(),
+        Pivots::All,
+    ) {
+        None => VerifyEnd::Solution,
+        Some(failure) => failed(failure),
     }
-    VerifyEnd::Solution
+}
+
+/// What is said of a key that fails.
+fn failed(failure: Failure) -> VerifyEnd
+    ensures { Names result failure }
+{
+    let Failure {
+        rank: _,
+        key,
+        value,
+        pivot,
+        sum,
+    } = failure;
+    match sum {
+        None => VerifyEnd::Over { key, pivot },
+        Some(sum) => VerifyEnd::Differs {
+            key,
+            pivot,
+            sum,
+            given: value,
+        },
+    }
+}
+
+/// Given values as outcomes, for the terms of a pivot sum.
+#[derive(Drop)]
+struct GivenValues<'a> {
+    values: &'a [Frac],
+}
+
+impl Seen for GivenValues<'_> {
+    ghost use Rattle.std.specs.Prelude.{◌<◌, List, length};
+    ghost use Rattle.airy_math.specs.Rational.{ℚ};
+    ghost use Rattle.amp_terms.specs.Pivots.{listed};
+    ghost use Rattle.airy_json.specs.Verifying.{as_table};
+
+    ghost Base = { List ℚ };
+
+    ghost made_over = { λ s. s.values.now };
+
+    ghost has = { λ s r. r < length s.values.now };
+
+    ghost shown = { λ s. listed (as_table s.values.now) };
+
+    fn at(&mut self, rank: u32) -> Outcome {
+        Outcome::Value(self.values[rank as usize])
+    }
 }
 
 /// A law: what is found in given values is the first pivot that fails; where there is none, they are a solution, and each is that of

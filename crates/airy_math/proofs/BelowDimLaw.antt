@@ -1,6 +1,6 @@
 -- Tensors with the same entries below dim have the same rows, terms, residues and relations.
 use Prim.Native.Nat.{ℕ, zero, suc, ◌+◌, ◌-◌, ◌*◌, ◌/◌, ◌<◌, ◌≤◌}
-use mathlib.Core.Path.{◌≡◌, refl, sym, ap, ap₂, subst, ◌∙◌}
+use mathlib.Core.Path.{◌≡◌, sym, ap, ap₂, subst, ◌∙◌}
 use mathlib.Core.Bool.{not, ◌&&◌}
 use mathlib.Core.List.{[], List, ◌∷◌, ◌++◌, map}
 use native.Mathlib.Omega.{arith}
@@ -21,7 +21,7 @@ use Rattle.airy_math.specs.Series.{Series, derivative, variable_times, series_pr
 use Rattle.airy_math.specs.Solutions.{Solves}
 use Rattle.airy_math.specs.Relations.{rel_AA, rel_BA, rel_BB, rel_BC, rel_D, Close}
 use Rattle.airy_math.specs.BelowDim.{SameAtKey, BelowDimLaw}
-use Rattle.airy_math.proofs.SumLemmas.{Each, Each-below, Each-weaken, sum-cong_each, sum_both, sum_both-cong}
+use Rattle.airy_math.proofs.SumLemmas.{Each-below, Each-weaken, sum-cong_each, sum_both, sum_both-cong}
 use Rattle.airy_math.proofs.KeyLemmas.{AllBelow}
 use Rattle.airy_math.proofs.MoveLemmas.{all_below-remove}
 use Rattle.airy_math.proofs.MeasureLemmas.{runs_stand}
@@ -29,6 +29,7 @@ use Rattle.airy_math.proofs.PlannedLaw.{head_stands, small}
 use Rattle.airy_math.proofs.CutLaw.{stands_below}
 use Rattle.airy_math.proofs.NeedsLaw.{needs_first}
 use Rattle.airy_math.proofs.SamePlanLaw.{each-cong_each}
+use Rattle.airy_math.proofs.EachLemmas.{map-cong_each}
 
 pub same_back : (T T' : Tensors) → SameEntries T T' → SameEntries T' T
 same_back T T' is = record {
@@ -42,10 +43,6 @@ same_back T T' is = record {
   where
     back : (i : ℕ) → i < T'.dim → i < T.dim
     back i p = subst (λ m. i < m) (sym is.dim) p
-
-map-cong_each : {A B : Type 0} (f h : A → B) (xs : List A) → Each (λ x. f x ≡ h x) xs → map f xs ≡ map h xs
-map-cong_each f h [] e = refl
-map-cong_each f h (x ∷ xs) e = ap₂ ◌∷◌ e.0 (map-cong_each f h xs e.1)
 
 sum-below_cong : (f h : ℕ → ℚ) (m : ℕ) → ((a : ℕ) → a < m → f a ≡ h a) → sum_over (below m) f ≡ sum_over (below m) h
 sum-below_cong f h m e = sum-cong_each f h (below m) (Each-below _ m e)

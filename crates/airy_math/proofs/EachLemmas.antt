@@ -1,11 +1,14 @@
 -- Laws of lists that are made element by element.
 use Prim.Native.Nat.{ℕ, zero, suc, ◌+◌, ◌<◌, ◌≤◌}
 use mathlib.Core.Path.{◌≡◌, refl, sym, ap, ap₂, ◌∙◌}
-use mathlib.Core.List.{[], List, ◌∷◌, ◌++◌}
+use mathlib.Core.List.{[], List, ◌∷◌, ◌++◌, map}
 use native.Mathlib.Omega.{arith}
 use lib.ListN.{length, get_or}
-use Rattle.airy_math.specs.Sums.{each, count_from}
+use Rattle.airy_math.specs.Sums.{each, count_from, keep}
 use Rattle.airy_math.proofs.SumLemmas.{Each}
+use mathlib.Core.Bool.{Bool, true, false}
+use Rattle.std.proofs.Common.{take, drop}
+use Rattle.std.proofs.lemmas.List.{take-append-drop}
 
 pub append_assoc : {A : Type 0} (xs ys zs : List A) → (xs ++ ys) ++ zs ≡ xs ++ (ys ++ zs)
 append_assoc [] ys zs = refl
@@ -64,3 +67,32 @@ pub Each-behind : {A : Type 0} (P : A → Type 0) (xs ys : List A) (d : A) (r : 
 Each-behind P [] ys d r e h k = Each-at P ys d r e k
 Each-behind P (x ∷ xs) ys d zero e h k = absurd (omega arith)
 Each-behind P (x ∷ xs) ys d (suc r) e h k = Each-behind P xs ys d r e (omega arith) (omega arith)
+
+pub keep-append : {A : Type 0} (p : A → Bool) (xs ys : List A) → keep p (xs ++ ys) ≡ keep p xs ++ keep p ys
+unfolding keep
+keep-append p [] ys = refl
+keep-append p (x ∷ xs) ys = by (p x) (keep-append p xs ys)
+  where
+    by : (t : Bool) → keep p (xs ++ ys) ≡ keep p xs ++ keep p ys → elim t [ true ↦ x ∷ keep p (xs ++ ys) | false ↦ keep p (xs ++ ys) ] ≡ elim t [ true ↦ x ∷ keep p xs | false ↦ keep p xs ] ++ keep p ys
+    by true r = ap (λ t. x ∷ t) r
+    by false r = r
+
+pub map-append : {A B : Type 0} (f : A → B) (xs ys : List A) → map f (xs ++ ys) ≡ map f xs ++ map f ys
+map-append f [] ys = refl
+map-append f (x ∷ xs) ys = ap (λ t. f x ∷ t) (map-append f xs ys)
+
+pub each-cong : {A B : Type 0} (f h : A → List B) (xs : List A) → ((x : A) → f x ≡ h x) → each xs f ≡ each xs h
+unfolding each
+each-cong f h [] e = refl
+each-cong f h (x ∷ xs) e = ap₂ ◌++◌ (e x) (each-cong f h xs e)
+
+pub map-cong_each : {A B : Type 0} (f h : A → B) (xs : List A) → Each (λ x. f x ≡ h x) xs → map f xs ≡ map h xs
+map-cong_each f h [] e = refl
+map-cong_each f h (x ∷ xs) e = ap₂ ◌∷◌ e.0 (map-cong_each f h xs e.1)
+
+pub take-one_more : (done rest more : List (List ℕ)) (w : List ℕ) → take (suc (length done)) (done ++ (w ∷ rest)) ++ more ≡ done ++ (w ∷ more)
+take-one_more [] rest more w = refl
+take-one_more (v ∷ done) rest more w = ap (λ x. v ∷ x) (take-one_more done rest more w)
+
+pub parted : (k : ℕ) (ws more : List (List ℕ)) → ws ++ more ≡ take k ws ++ (drop k ws ++ more)
+parted k ws more = sym (ap (λ x. x ++ more) (take-append-drop k ws)) ∙ append_assoc (take k ws) (drop k ws) more

@@ -1,11 +1,5 @@
 -- What the verdict says by exact numbers: Closed, that all relations hold; Differs, that the named one fails.
-use Prim.Native.Nat.{ℕ, zero, suc, ◌+◌, ◌-◌, ◌<◌, ◌≤◌}
-use mathlib.Core.Path.{◌≡◌, refl, sym, ap, ap₂, ◌∙◌}
-use mathlib.Core.Bool.{Bool, true, false, cond}
-use mathlib.Core.List.{List, [], ◌∷◌}
-use mathlib.Core.Logic.{◌⊎◌, inl, inr}
-use native.Mathlib.Omega.{arith}
-use Rattle.std.specs.Prelude.{Option, Some, None}
+use Rattle.std.proofs.Common.{ℕ, zero, suc, ◌+◌, ◌-◌, ◌<◌, ◌≤◌, ◌≡◌, refl, sym, ap, ap₂, ◌∙◌, Bool, true, false, cond, List, [], ◌∷◌, ◌⊎◌, inl, inr, arith, Option, Some, None}
 use Rattle.std.proofs.lemmas.Bool.{cases_order}
 use Rattle.airy_math.specs.Rational.{ℚ}
 use Rattle.airy_math.specs.Sums.{below, count_from}
@@ -118,7 +112,7 @@ found_below : (f : ℕ → Verdict) (n : ℕ) (r : Rel) (p : List ℕ) (x y : �
 unfolding below
 found_below f n r p x y e = let i = found_count f 0 n r p x y e in record { x = i.x; from = i.from; to = omega (arith, i.to); says = i.says }
 
-either_order : (N : ℕ) (P : ℕ → ℕ → ℚ) → ((i j : ℕ) → i < j → j < N → P i j ≡ P j i) → (i j : ℕ) → i < N → j < N → P i j ≡ P j i
+pub either_order : (N : ℕ) (P : ℕ → ℕ → ℚ) → ((i j : ℕ) → i < j → j < N → P i j ≡ P j i) → (i j : ℕ) → i < N → j < N → P i j ≡ P j i
 either_order N P h i j hi hj = at (cases_order i j)
   where
     at : (i ≡ j) ⊎ ((i < j) ⊎ (j < i)) → P i j ≡ P j i

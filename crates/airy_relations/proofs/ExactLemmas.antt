@@ -1,12 +1,5 @@
 -- A side that is obtained is the exact one, and the exact one is the relation's expression.
-use Prim.Native.Nat.{ℕ, ◌<◌}
-use mathlib.Core.Path.{◌≡◌, refl, sym, ap, ap₂, ◌∙◌}
-use mathlib.Core.Bool.{Bool, true, false, not, ◌&&◌}
-use mathlib.Core.List.{List, [], ◌∷◌, map}
-use mathlib.Core.Logic.{◌⊎◌, inl, inr}
-use native.Mathlib.Omega.{arith}
-use lib.Dec.{ltb, leb, eqb}
-use Rattle.std.specs.Prelude.{Option, Some, None}
+use Rattle.std.proofs.Common.{ℕ, ◌<◌, ◌≡◌, refl, sym, ap, ap₂, ◌∙◌, Bool, true, false, not, ◌&&◌, List, [], ◌∷◌, map, ◌⊎◌, inl, inr, arith, ltb, leb, eqb, Option, Some, None}
 use Rattle.std.proofs.lemmas.Bool.{cases_order, lt-ltb, le-ltb, eq-eqb, ne_eqb, lt-leb, le-leb}
 use Rattle.airy_math.specs.Rational.{ℚ, ◌+ℚ◌, ◌*ℚ◌}
 use Rattle.airy_math.specs.RationalLaws.{half, 0ℚ, +ℚ_assoc, 0ℚ_idl, 0ℚ-*ℚ, products_q}
@@ -17,25 +10,17 @@ use Rattle.airy_math.specs.Relations.{rel_AA, rel_BA, rel_BB, rel_BC, rel_D}
 use Rattle.airy_math.specs.Obtained.{obtained_sum, both_obtained, ◌⊛◌, obtained_from}
 use Rattle.airy_math.proofs.SumLemmas.{0ℚ_idr, sum-cong, sum-append, sum-map, sum-each, sum-keep, sum_both, triangle}
 use Rattle.airy_math.proofs.PivotLemmas.{not_zero-when, when-and}
-use Rattle.airy_math.proofs.ObtainedLaw.{sum_exact, product_exact}
+use Rattle.airy_math.proofs.ObtainedLaw.{sum_exact, product_exact, half_exact, self_exact}
 use Rattle.airy_relations.specs.Sides.{Rel, AA, BA, BB, BC, D, Product, Alone, Times, Weighted, at_BA, at_BB, at_BC, at_D, of_pair, products, product_value, exact_side, obtained_value, obtained_side}
 use Rattle.airy_relations.specs.Numbers.{expression}
 use Rattle.airy_relations.proofs.ObtainedLemmas.{from_none}
 
 -- ---- what is obtained is exact
 
-self_exact : (x w : ℚ) → Some x ≡ Some w → w ≡ x
-self_exact x w e = cc
-
 weighted_exact : (o : Option ℚ) (x y z : ℚ) → ((w : ℚ) → o ≡ Some w → w ≡ x) → o ⊛ Some y ≡ Some z → z ≡ x *ℚ y
 unfolding ◌⊛◌ both_obtained
 weighted_exact None x y z h e = cc
 weighted_exact (Some w) x y z h e = product_exact w y z e ∙ ap (λ t. t *ℚ y) (h w refl)
-
-half_exact : (h : Bool) (w z : ℚ) → obtained_half h w ≡ Some z → z ≡ halved h w
-unfolding obtained_half
-half_exact true w z e = product_exact w half z e
-half_exact false w z e = self_exact w z e
 
 value_exact : (p : Product) (v : ℚ) → obtained_value p ≡ Some v → v ≡ product_value p
 unfolding obtained_value product_value

@@ -1,7 +1,5 @@
 -- Where the relations hold, the verdict is never Differs.
-use Prim.Native.Nat.{ℕ, zero, suc}
-use mathlib.Core.Path.{◌≡◌, refl, ◌∙◌}
-use native.Mathlib.Omega.{arith}
+use Rattle.std.proofs.Common.{ℕ, zero, suc, ◌≡◌, refl, ◌∙◌, arith}
 use Rattle.airy_math.specs.Relations.{Close}
 use Rattle.airy_math.specs.Sums.{below, count_from, each}
 use Rattle.airy_math.specs.Tensors.{Tensors}

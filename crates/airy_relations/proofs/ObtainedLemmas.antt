@@ -1,11 +1,6 @@
 -- Zeros are obtained: a product with a factor 0 is 0, and adding 0 leaves a number in range as it is.
-use Prim.Native.Nat.{ℕ, ◌*◌, ◌<◌, ◌^◌, ◌/◌}
-use mathlib.Core.Path.{◌≡◌, refl, ap, ◌∙◌}
-use mathlib.Core.Bool.{true, ◌&&◌, cond}
-use mathlib.Core.List.{List, [], ◌∷◌, ◌++◌}
-use native.Mathlib.Omega.{arith}
-use lib.IntN.{*ℤ-one, ℤ, pos, ◌+ℤ◌, ◌*ℤ◌, nat_abs, *ℤ_comm, +ℤ_comm, +ℤ_idl, zero-*ℤ}
-use Rattle.std.specs.Prelude.{Option, Some, None}
+use Rattle.std.proofs.Common.{ℕ, ◌*◌, ◌<◌, ◌^◌, ◌/◌, ◌≡◌, refl, ap, ◌∙◌, true, ◌&&◌, cond, List, [], ◌∷◌, ◌++◌, arith, ℤ, pos, ◌+ℤ◌, ◌*ℤ◌, nat_abs, Option, Some, None}
+use lib.IntN.{*ℤ-one, *ℤ_comm, +ℤ_comm, +ℤ_idl, zero-*ℤ}
 use Rattle.std.proofs.lemmas.Bool.{lt-ltb}
 use Rattle.airy_math.specs.Gcd.{gcd, IsGcd-gcd}
 use Rattle.airy_math.specs.Rational.{ℚ, ◌+ℚ◌, ℚ_computes}

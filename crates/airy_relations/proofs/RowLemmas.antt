@@ -1,14 +1,6 @@
 -- A row read from its front gives the value at each index.
-use Prim.Native.Nat.{ℕ, zero, suc, ◌+◌, ◌-◌, ◌<◌, ◌≤◌}
-use mathlib.Core.Path.{◌≡◌, refl, sym, ap, ap₂, subst, ◌∙◌}
-use mathlib.Core.Bool.{Bool, true, false, cond, not, ◌&&◌}
-use mathlib.Core.List.{List, [], ◌∷◌, ◌++◌, map}
-use native.Mathlib.Omega.{arith}
-use lib.Dec.{eqb, leb}
+use Rattle.std.proofs.Common.{ℕ, zero, suc, ◌+◌, ◌-◌, ◌<◌, ◌≤◌, ◌≡◌, refl, sym, ap, ap₂, subst, ◌∙◌, Bool, true, false, cond, not, ◌&&◌, List, [], ◌∷◌, ◌++◌, map, arith, eqb, leb, ◌⊎◌, inl, inr, Option, Some, None, append-nil}
 use Rattle.std.proofs.lemmas.Bool.{eq-eqb, ne_eqb, cases_eq, cases_lt, lt-leb, le-leb}
-use mathlib.Core.Logic.{◌⊎◌, inl, inr}
-use Rattle.std.specs.Prelude.{Option, Some, None}
-use Rattle.std.proofs.lemmas.List.{append-nil}
 use Rattle.airy_math.specs.Rational.{ℚ}
 use Rattle.airy_math.specs.RationalLaws.{0ℚ}
 use Rattle.airy_math.specs.Sums.{below, count_from, keep, each}
@@ -17,6 +9,7 @@ use Rattle.airy_math.proofs.PivotLemmas.{zero_number}
 use Rattle.airy_relations.specs.Places.{from_to}
 use Rattle.airy_relations.specs.Rows.{first_at, first_index, behind, row_of, other_of, with_other, others}
 use Rattle.airy_relations.proofs.VerdictLemmas.{from_zero}
+use Rattle.airy_math.proofs.EachLemmas.{keep-append}
 
 -- ---- what is kept
 
@@ -109,15 +102,6 @@ row_b_is T i j = ap (λ xs. keep (λ r. not (is_zero r.1)) (map (λ a. (a, T.B i
 
 abbrev is_kept : ℕ × ℕ × ℚ → Bool
 is_kept r = leb r.0 r.1 && not (is_zero r.2)
-
-keep-append : {A : Type 0} (p : A → Bool) (xs ys : List A) → keep p (xs ++ ys) ≡ keep p xs ++ keep p ys
-unfolding keep
-keep-append p [] ys = refl
-keep-append p (x ∷ xs) ys = by (p x) (keep-append p xs ys)
-  where
-    by : (b : Bool) → keep p (xs ++ ys) ≡ keep p xs ++ keep p ys → (elim b [ true ↦ x ∷ keep p (xs ++ ys) | false ↦ keep p (xs ++ ys) ]) ≡ (elim b [ true ↦ x ∷ keep p xs | false ↦ keep p xs ]) ++ keep p ys
-    by true h = ap (λ t. x ∷ t) h
-    by false h = h
 
 others-append : (l : ℕ) (xs ys : List (ℕ × ℕ × ℚ)) → others l (xs ++ ys) ≡ others l xs ++ others l ys
 others-append l [] ys = refl

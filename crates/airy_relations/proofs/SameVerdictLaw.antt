@@ -1,11 +1,5 @@
 -- The verdict on places below dim is the same for two tensors with the same entries at indices below dim.
-use Prim.Native.Nat.{ℕ, suc, ◌-◌, ◌<◌, ◌≤◌}
-use mathlib.Core.Path.{◌≡◌, refl, sym, ap, ap₂, ◌∙◌}
-use mathlib.Core.Bool.{not, ◌&&◌}
-use mathlib.Core.List.{List, [], ◌∷◌, ◌++◌, map}
-use native.Mathlib.Omega.{arith}
-use lib.Dec.{leb, eqb}
-use Rattle.std.specs.Prelude.{Some}
+use Rattle.std.proofs.Common.{ℕ, suc, ◌-◌, ◌<◌, ◌≤◌, ◌≡◌, refl, sym, ap, ap₂, ◌∙◌, not, ◌&&◌, List, [], ◌∷◌, ◌++◌, map, arith, leb, eqb, Some}
 use Rattle.airy_math.specs.Obtained.{obtained_from}
 use Rattle.airy_math.specs.Rational.{ℚ}
 use Rattle.airy_math.specs.RationalLaws.{0ℚ}
@@ -20,12 +14,9 @@ use Rattle.airy_relations.specs.SameVerdict.{SameVerdictLaw}
 use Rattle.airy_relations.specs.Verdicts.{Verdict, compared, or_later, first_over, verdict_at}
 use Rattle.airy_relations.specs.Walks.{place, over_l, over_k, over_j, over_i}
 use Rattle.airy_relations.proofs.VerdictLemmas.{verdict_is}
+use Rattle.airy_math.proofs.EachLemmas.{map-cong_each}
 
 -- ---- lists
-
-map-cong_each : {A B : Type 0} (f h : A → B) (xs : List A) → Each (λ x. f x ≡ h x) xs → map f xs ≡ map h xs
-map-cong_each f h [] e = refl
-map-cong_each f h (x ∷ xs) e = ap₂ ◌∷◌ e.0 (map-cong_each f h xs e.1)
 
 first-cong_each : {A : Type 0} (f h : A → Verdict) (xs : List A) → Each (λ x. f x ≡ h x) xs → first_over xs f ≡ first_over xs h
 unfolding first_over

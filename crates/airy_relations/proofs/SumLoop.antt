@@ -1,14 +1,6 @@
 -- The loop over a that adds three products for each a, with three rows that are read along.
-use Prim.Native.Nat.{ℕ, suc, ◌+◌, ◌<◌, ◌≤◌}
-use mathlib.Core.Path.{◌≡◌, refl, sym, ap, ap₂, ◌∙◌}
-use mathlib.Core.List.{List, [], ◌∷◌, map}
-use lib.Dec.{eqb}
-use lib.ListN.{length, drop, get_or}
-use native.Mathlib.Omega.{arith}
-use Rattle.std.proofs.Math.Seq.{drop-cons}
+use Rattle.std.proofs.Common.{ℕ, suc, ◌+◌, ◌<◌, ◌≤◌, ◌≡◌, refl, sym, ap, ap₂, ◌∙◌, List, [], ◌∷◌, map, eqb, length, drop, get_or, arith, drop-cons, ◌⊎◌, inl, inr, Option, Some, None, option_and_then}
 use Rattle.std.proofs.lemmas.List.{drop_all}
-use mathlib.Core.Logic.{◌⊎◌, inl, inr}
-use Rattle.std.specs.Prelude.{Option, Some, None, option_and_then}
 use Rattle.airy_math.specs.Obtained.{IsInRange, ◌⊛◌, both_obtained, obtained_from}
 use Rattle.airy_math.specs.Terms.{obtained_half}
 use Rattle.airy_math.specs.Rational.{ℚ}

@@ -1,23 +1,10 @@
 -- The first verdict over a list, step by step; and what a verdict says of the sides.
-use Prim.Native.Nat.{ℕ, suc, ◌+◌, ◌-◌, ◌<◌, ◌≤◌}
-use mathlib.Core.Path.{◌≡◌, refl, sym, ap, ap₂, ◌∙◌}
-use mathlib.Core.Bool.{Bool, true, false, cond, ◌&&◌}
-use mathlib.Core.List.{List, [], ◌∷◌, ◌++◌, map}
-use native.Mathlib.Omega.{arith}
-use lib.Dec.{eqb}
-use lib.IntN.{ℤ, pos}
-use lib.Signed.{le_z}
-use lib.ListN.{length, drop, get_or}
-use Rattle.std.proofs.Math.Seq.{drop-cons}
+use Rattle.std.proofs.Common.{ℕ, suc, ◌+◌, ◌-◌, ◌<◌, ◌≤◌, ◌≡◌, refl, sym, ap, ap₂, ◌∙◌, Bool, true, false, cond, ◌&&◌, List, [], ◌∷◌, ◌++◌, map, arith, pos, length, drop, get_or, drop-cons, ◌↔◌, Option, Some, None}
 use Rattle.std.proofs.lemmas.List.{drop_all}
-use mathlib.Core.Logic.{◌↔◌}
-use Rattle.std.specs.Prelude.{Option, Some, None}
-use Rattle.std.proofs.lemmas.Bool.{and_parts, and_from, eqb-true, eq-eqb, false_from_ne_true}
-use Rattle.std.proofs.lemmas.Int.{ints}
+use Rattle.std.proofs.lemmas.Bool.{and_parts, and_from, false_from_ne_true}
 use Rattle.airy_math.specs.Rational.{ℚ, same_parts}
 use Rattle.std.specs.Ordering.{int_eq}
 use Rattle.std.proofs.lemmas.Bool.Decides.{Decides-int_eq}
-use Rattle.airy_math.specs.Shapes.{eq_z}
 use Rattle.airy_math.proofs.SameNumbers.{same_true, same_self}
 use Rattle.airy_math.specs.Sums.{below, count_from, each}
 use Rattle.airy_math.specs.Tensors.{Tensors, same_number}

@@ -32,15 +32,24 @@ bgw_closed = refl
 unfoldable none : Tensors
 none = record { dim = 2; shape = All; A = λ i j k. 0ℚ; B = λ i j k. 0ℚ; C = λ i j k. 0ℚ; D = λ i. 0ℚ }
 
-single_entry : verdict (record none { A = λ i j k. when (eqb i 0 && eqb j 1 && eqb k 1) (whole 1) }) 2 ≡ Differs AA (0 ∷ 1 ∷ 1 ∷ 0 ∷ []) (whole 1) (whole 0)
+single_entry : verdict (record none { A = λ i j k. when (eqb i 0 && eqb j 1 && eqb k 1) (whole 1) }) 2
+    ≡ Differs AA (0 ∷ 1 ∷ 1 ∷ 0 ∷ []) (whole 1) (whole 0)
 unfolding verdicts_compute none
 single_entry = refl
 
 -- This one fails at no other place of BB.
-above_l : verdict (record none { B = λ i j k. when (eqb i 0 && eqb j 1 && eqb k 0) (whole 2) +ℚ when (eqb i 1 && eqb j 1 && eqb k 1) (whole 1) }) 2 ≡ Differs BB (0 ∷ 1 ∷ 1 ∷ 0 ∷ []) (whole 4) (whole 2)
+above_l : verdict (record none {
+  B = λ i j k. when (eqb i 0 && eqb j 1 && eqb k 0) (whole 2)
+      +ℚ when (eqb i 1 && eqb j 1 && eqb k 1) (whole 1);
+}) 2
+    ≡ Differs BB (0 ∷ 1 ∷ 1 ∷ 0 ∷ []) (whole 4) (whole 2)
 unfolding verdicts_compute none
 above_l = refl
 
-too_large : verdict (record none { B = λ i j k. when (eqb i 1 && eqb j 0 && eqb k 0) (whole (2 ^ 64)); D = λ i. when (eqb i 0) (whole (2 ^ 64)) }) 2 ≡ Over D (0 ∷ 1 ∷ 0 ∷ 0 ∷ [])
+too_large : verdict (record none {
+  B = λ i j k. when (eqb i 1 && eqb j 0 && eqb k 0) (whole (2 ^ 64));
+  D = λ i. when (eqb i 0) (whole (2 ^ 64));
+}) 2
+    ≡ Over D (0 ∷ 1 ∷ 0 ∷ 0 ∷ [])
 unfolding verdicts_compute none
 too_large = refl

@@ -1,23 +1,16 @@
 -- Behind a `finish` one list of replies is admitted.
-use Rattle.std.proofs.Common.{◌≡◌, ◌⊎◌, inl, inr, ℕ, Bool, true, false, List, [], ◌∷◌, map, refl, sym, ap, ap₂, ◌∙◌, subst}
-use Rattle.std.specs.Prelude.{◌&&◌, cond, Option, Some, IsTrue}
+use Rattle.std.proofs.Common.{◌≡◌, ◌⊎◌, inl, inr, ℕ, Bool, true, false, List, [], ◌∷◌, map, refl, sym, ap, ap₂, ◌∙◌, subst, ◌&&◌, cond, Option, Some, IsTrue}
+use Rattle.run_reports.proofs.Names.{Key, planned, place_of, are_below, Outcome, outcomes, Line}
 use lib.Dec.{ltb}
 use lib.ListN.{get_or}
-use Rattle.airy_math.specs.Keys.{Key}
 use Rattle.airy_math.specs.Levels.{euler_of}
 use Rattle.airy_math.specs.Shapes.{covers}
-use Rattle.airy_math.specs.Planned.{planned}
-use Rattle.airy_math.specs.Ranks.{place_of}
-use Rattle.amp_plan.specs.Places.{are_below}
 use Rattle.amp_plan.specs.declared.place.Place.{Place}
 use Rattle.amp_plan.specs.declared.place.Place.TheVariants as place
-use Rattle.amp_terms.specs.declared.Outcome.{Outcome}
 use Rattle.amp_terms.specs.declared.Outcome.TheVariants as outcome
-use Rattle.amp_terms.specs.Outcomes.{outcomes}
 use Rattle.ask_seats.specs.Replies.{Reply, NotYet}
 use Rattle.ask_seats.specs.Sessions.{Session, Stage, Replied, IsAdmitted, start, finish, behind, told, told_at, place_at, outcome_reply, is_rank, is_open, is_unsettled}
 use Rattle.ask_seats.proofs.ReplyLemmas.{behind-bound, behind-finished}
-use Rattle.command_words.specs.declared.line.Line.{Line}
 use Rattle.command_words.specs.declared.line.Line.TheVariants.{Ask, Finish}
 use Rattle.airy_wait.specs.Finished.{OneListLaw}
 

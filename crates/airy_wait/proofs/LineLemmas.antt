@@ -1,8 +1,7 @@
 -- The lines of replies, one after another.
-use Rattle.std.proofs.Common.{◌≡◌, ℕ, zero, suc, ◌+◌, ◌≤◌, List, [], ◌∷◌, ◌++◌, length, take, drop, refl, sym, ap, ◌∙◌, subst, arith, append_assoc, append-nil, add-one, Some}
-use Rattle.std.specs.Prelude.{Ok, Err, slice_get, Option, None}
+use Rattle.std.proofs.Common.{◌≡◌, ℕ, zero, suc, ◌+◌, ◌≤◌, List, [], ◌∷◌, ◌++◌, length, take, drop, refl, sym, ap, ◌∙◌, subst, arith, append_assoc, append-nil, add-one, Some, Ok, Err, slice_get, Option, None}
+use Rattle.run_reports.proofs.Names.{Taking, Writes}
 use Rattle.std.specs.Io.KnownBytes.{Appends}
-use Rattle.airy_io.specs.Causes.{Taking, Writes}
 use Rattle.airy_io.proofs.Prefixes.{AppendsPrefix-more}
 use Rattle.ask_seats.specs.Replies.{Reply, line_text, lines_text}
 
@@ -41,7 +40,3 @@ lines-done all k a b x past before kept = record {
   prefix = tt;
   cause = record { later = omega arith; failed = tt; kept = kept };
 }
-
-pub nothing_taken : (a : Option (List ℕ)) → Appends a a []
-nothing_taken None = tt
-nothing_taken (Some xs) = sym (append-nil xs)

@@ -1,8 +1,7 @@
 -- A worker's seat after a claim or a look.
 use Rattle.std.proofs.Common.{◌≡◌, ℕ, suc, ◌+◌, ◌<◌, ◌≤◌, List, ◌∷◌, ◌++◌, ◌⊎◌, inl, inr, refl, [], Option, None, sym, ap, ◌∙◌, arith, append-nil, append_assoc}
-use Rattle.amp_plan.specs.Plans.{Planning}
+use Rattle.run_reports.proofs.Names.{Planning, IsSeatOf, view_of, done_of, standing_of, HasWorked}
 use Rattle.cell_words.specs.Claims.{Claims}
-use Rattle.cell_words.specs.Seats.{IsSeatOf, view_of, done_of, standing_of}
 use Rattle.cell_words.specs.declared.view.Standing.{Standing}
 use Rattle.cell_words.specs.declared.view.View.{View}
 use Rattle.cell_words.specs.declared.claim.Claim.{Claim}
@@ -10,7 +9,6 @@ use Rattle.cell_words.specs.declared.claim.Claim.TheVariants.{Mine, Needs, Taken
 use Rattle.cell_words.specs.declared.countdown.Countdown.{Countdown}
 use Rattle.cell_words.specs.declared.countdown.CountSeat.{CountSeat}
 use Rattle.ask_seats.specs.Counts.{Knows}
-use Rattle.fill_crew.specs.Crews.{HasWorked}
 use Rattle.airy_wait.specs.Waits.{FillsInOrder, RisesIn}
 use Rattle.fill_crew.proofs.CrewLemmas.{worked_more}
 

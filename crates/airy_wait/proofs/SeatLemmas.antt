@@ -1,9 +1,9 @@
 -- Seats that are taken from the end of a list, and callers that are put there.
 use Rattle.std.proofs.Common.{◌≡◌, ◌⊎◌, inl, inr, ℕ, ◌<◌, ◌≤◌, List, [], ◌∷◌, ◌++◌, map, length, get_or, refl, sym, ap, ◌∙◌, subst, arith}
+use Rattle.run_reports.proofs.Names.{EachAt}
 use Rattle.std.proofs.lemmas.Bool.{cases_lt}
 use Rattle.std.proofs.lemmas.List.{length-append, get_or_append_left}
 use Rattle.std.proofs.Math.Seq.{get_or-append_seam}
-use Rattle.fill_crew.specs.Crews.{EachAt}
 
 module _ {X : Type 0} (P : X → Type 0) (xs : List X) (x : X) where
   pub each_before : (ys : List X) → ys ≡ xs ++ x ∷ [] → EachAt P ys → EachAt P xs

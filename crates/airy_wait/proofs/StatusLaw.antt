@@ -1,94 +1,25 @@
--- The status of a run and its cause, both ways.
-use Rattle.std.proofs.Common.{◌≡◌, ◌⊎◌, inl, inr, ℕ, arith, refl, sym, ◌∙◌, subst}
-use Rattle.std.specs.Prelude.{true, List}
-use Rattle.airy_math.specs.Jobs.{Structure}
-use Rattle.airy_math.specs.Keys.{Key}
-use Rattle.sparse_tensor.specs.Entries.{Entries}
-use Rattle.command_words.specs.Bounds.{is_bound}
+-- The status of what is meant, and how the reports that the words lead to stand to it.
+use Rattle.std.proofs.Common.{◌≡◌, ℕ, List, IsTrue, refl}
+use Rattle.run_reports.proofs.Names.{Structure, Key, Entries, is_bound, Run, text_structure, structure_of}
 use Rattle.command_words.specs.Words.{Named, Text}
-use Rattle.run_reports.specs.Report.{Report, out_of_memory}
-use Rattle.run_reports.specs.Promises.{AnswersBy}
-use Rattle.run_reports.specs.Runs.{Run, Gives}
-use Rattle.run_reports.specs.Structures.{text_structure}
-use Rattle.run_reports.specs.StructureTables.{structure_of}
 use Rattle.session_law.proofs.SessionLemmas.{plain_session}
-use Rattle.run_reports.proofs.SourceLemmas.{other_bound}
-use Rattle.run_reports.proofs.StatusLemmas.{IsOther, IsPlain, other_said, plain_bound, plain_of, plain_text, status_of}
-use Rattle.run_reports.proofs.CauseLemmas as run_causes
-use Rattle.run_reports.proofs.CauseLemmas.{IsAmple, Judged, OfText, Stands, bound_stands, one_of_text, plain_range, stands_said, stands_without}
-use Rattle.airy_wait.specs.Words.{Reading, Waiting, Refused, reading_of}
+use Rattle.run_reports.proofs.StatusLemmas.{plain_of}
+use Rattle.run_reports.proofs.JobLemmas.{Said, JudgedOne, judged_bound, judged_said, judged_word}
+use Rattle.airy_wait.specs.Words.{Reading, Waiting, Refused}
 use Rattle.airy_wait.specs.Waiting.{replies_of, waiting_report, closed_waiting, LeadsToClosedWaiting, LeadsToWaiting}
-use Rattle.airy_wait.specs.Run.{Answers, AsksForNoText, Leads}
-use Rattle.airy_wait.specs.Laws.{meant, TakesMemory, HasCauses, IsComplete}
+use Rattle.airy_wait.specs.Run.{Leads}
+use Rattle.airy_wait.specs.Laws.{meant, TakesMemory}
 
--- ---- the statuses of what is meant
-
-plain_waiting : (s : Structure) (X : ℕ) (keys : List Key) → IsPlain (waiting_report s X keys)
+pub waiting_said : (s : Structure) (X : ℕ) (keys : List Key) → Said (LeadsToWaiting s X keys (waiting_report s X keys)) (waiting_report s X keys) (IsTrue (is_bound X))
 unfolding waiting_report
-plain_waiting s X keys = plain_session s X X (replies_of s X keys)
+waiting_said s X keys = record { plain = plain_session s X X (replies_of s X keys); said = λ r leads. leads.said }
 
-plain_closed_waiting : (X : ℕ) (keys : List Key) (t : Entries) → IsPlain (closed_waiting X keys t)
+pub closed_said : (X : ℕ) (keys : List Key) (t : Entries) → Said (LeadsToClosedWaiting X keys t) (closed_waiting X keys t) (IsTrue (is_bound X))
 unfolding closed_waiting
-plain_closed_waiting X keys t = plain_of t _ (plain_waiting (text_structure t) X keys)
+closed_said X keys t = record { plain = plain_of t _ (waiting_said (text_structure t) X keys).plain; said = λ r leads. leads.waiting.said }
 
--- ---- no job's report is that of a refused word, or of a failed source
-
-pub other_waiting : (s : Structure) (X : ℕ) (keys : List Key) (r : Report) → LeadsToWaiting s X keys (waiting_report s X keys) r → IsOther r
-other_waiting s X keys r leads = other_said (plain_waiting s X keys) leads.said
-
-pub other_closed : (X : ℕ) (keys : List Key) (t : Entries) (r : Report) → LeadsToClosedWaiting X keys t r → IsOther r
-other_closed X keys t r leads = other_said (plain_closed_waiting X keys t) leads.waiting.said
-
--- an answer by what is asked for
-pub answers_by : (run : Run) (asked : Reading) → asked ≡ reading_of run.words → AnswersBy (Leads asked run) (AsksForNoText asked) run → Answers run
-answers_by run asked same answers = subst (λ r. AnswersBy (Leads r run) (AsksForNoText r) run) same answers
-
--- ---- the causes
-
--- the report of a reading with a text, and one of want of memory
-abbrev Meant : Reading → List ℕ → Report → Type 0
-Meant r text report = report ≡ meant r text
-
-abbrev Wants : Reading → Report → Type 0
-Wants r report = TakesMemory r × (report ≡ out_of_memory)
-
-text_of : (X workers callers : ℕ) (keys : List Key) → is_bound X ≡ true
-    → OfText (Meant (Waiting Text X workers callers keys)) (Wants (Waiting Text X workers callers keys)) (LeadsToClosedWaiting X keys)
+pub judged_wait : (run : Run) (r : Reading) → JudgedOne run (λ place. r ≡ Refused place) (Leads r run) (meant r) (TakesMemory r)
 unfolding meant
-text_of X workers callers keys bounded =
-    one_of_text (closed_waiting X keys) (Meant (Waiting Text X workers callers keys)) (λ text report e. e ∙ rw bounded refl)
-    (λ t report leads. leads.waiting.said) (bounded, refl)
-
-stands_by : (run : Run) (r : Reading) (report : Report) → Leads r run report → Stands run (Meant r) (Wants r) report
-unfolding meant
-stands_by run (Waiting (Named family) X workers callers keys) report leads = stands_said run (λ e text. e) (λ w. w) leads.said
-stands_by run (Waiting Text X workers callers keys) report leads =
-    bound_stands run X (λ outside text. rw outside refl) (text_of X workers callers keys) report leads
-stands_by run (Refused place) report leads = stands_without run (λ text. leads)
-
-meant_ample : (r : Reading) (text : List ℕ) → IsAmple (meant r text).status
-unfolding meant
-meant_ample (Waiting (Named family) X workers callers keys) text = plain_range (plain_waiting (structure_of family) X keys)
-meant_ample (Waiting Text X workers callers keys) text = plain_range (plain_bound X _ (plain_text (closed_waiting X keys) (plain_closed_waiting X keys) text))
-meant_ample (Refused place) text = (inr (omega arith, omega arith), λ e. omega (arith, e))
-
-refused_word : (run : Run) (r : Reading) (report : Report) → Leads r run report → report.status ≡ 2 → (place : ℕ) × (r ≡ Refused place)
-refused_word run (Waiting (Named family) X workers callers keys) report leads h = absurd ((other_waiting (structure_of family) X keys report leads).0 h)
-refused_word run (Waiting Text X workers callers keys) report leads h = absurd (other_bound X _ _ _ report (other_closed X keys) leads h)
-refused_word run (Refused place) report leads h = (place, refl)
-
-judged : (run : Run) (r : Reading) → Judged run (Leads r run) (Meant r) (Wants r) (TakesMemory r) (λ place. r ≡ Refused place)
-judged run r = record {
-  stands = stands_by run r;
-  ample = λ text report e. subst IsAmple (sym (status_of e)) (meant_ample r text);
-  ten = λ report w. status_of w.1;
-  taking = λ report w. w.0;
-  word = refused_word run r;
-}
-
-pub causes : (run : Run) → Answers run → HasCauses run
-causes run answers = run_causes.causes answers (judged run (reading_of run.words))
-
-pub complete : (run : Run) → Answers run → IsComplete run
-complete run answers =
-    run_causes.complete answers (judged run (reading_of run.words)) (λ report led w gives. (w.0, subst (Gives run) w.1 gives))
+judged_wait run (Waiting (Named family) X workers callers keys) = judged_said run _ (waiting_said (structure_of family) X keys)
+judged_wait run (Waiting Text X workers callers keys) = judged_bound run _ (LeadsToClosedWaiting X keys) (closed_waiting X keys) X (closed_said X keys)
+judged_wait run (Refused place) = judged_word run _ place refl

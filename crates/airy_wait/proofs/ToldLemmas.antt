@@ -1,11 +1,8 @@
 -- What there is to tell of a key, by its place in the plan.
 use Rattle.std.proofs.Common.{◌≡◌, ℕ, ◌<◌, sym, ap, ◌∙◌, subst, true, false}
-use Rattle.airy_math.specs.Keys.{Key}
-use Rattle.amp_plan.specs.Plans.{Planning, tensors_of}
-use Rattle.amp_plan.specs.Places.{place_in}
+use Rattle.run_reports.proofs.Names.{Key, Planning, tensors_of, place_in, cells, outcome_at}
 use Rattle.amp_plan.specs.declared.place.Place.{Place}
 use Rattle.amp_plan.specs.declared.place.Place.TheVariants as place
-use Rattle.cell_words.specs.Layout.{cells, outcome_at}
 use Rattle.cell_words.specs.Looks.{Reaches}
 use Rattle.ask_seats.specs.Sessions.{told, told_at, is_rank}
 use Rattle.ask_seats.specs.Asks.{reply_at}

@@ -1,40 +1,15 @@
 -- What the parts of a run with callers who wait end with.
-use Rattle.std.proofs.Common.{◌≡◌, ◌≢◌, ◌⊎◌, inl, inr, ℕ, ◌<◌, ◌≤◌, true, false, List, [], ◌∷◌, map, arith, refl, sym, ap, ap₂, ◌∙◌, subst}
-use Rattle.std.specs.Prelude.{IsTrue, None}
-use Rattle.airy_io.specs.Causes.{Taking}
-use Rattle.airy_math.specs.Jobs.{Structure, IsSound, planned_tensors}
-use Rattle.airy_math.specs.BelowDim.{BelowDimLaw}
-use Rattle.airy_math.specs.Keys.{Key}
-use Rattle.airy_math.specs.OwnTensors.{OwnTensorsLaw}
-use Rattle.airy_math.specs.Ranks.{PlanLaw}
-use Rattle.airy_relations.specs.declared.verdict.Verdict.{Verdict}
-use Rattle.airy_relations.specs.declared.verdict.Verdict.TheVariants.{Closed, Differs, Over}
-use Rattle.airy_relations.specs.Verdicts.{verdict}
-use Rattle.amp_plan.specs.Plans.{Planning, tensors_of}
-use Rattle.amp_plan.specs.Limits.{Within, limit, limit_of, Tells}
-use Rattle.amp_plan.specs.declared.PlanCause.{PlanCause}
+use Rattle.std.proofs.Common.{◌≡◌, ◌≢◌, ◌⊎◌, inl, inr, ℕ, ◌<◌, ◌≤◌, true, false, List, [], ◌∷◌, map, arith, refl, sym, ap, ap₂, ◌∙◌, subst, IsTrue, None}
+use Rattle.run_reports.proofs.Names.{Taking, Structure, IsSound, planned_tensors, BelowDimLaw, Key, OwnTensorsLaw, PlanLaw, Verdict, Closed, Differs, Over, verdict, Planning, tensors_of, Within, limit, limit_of, PlanCause, is_bound, reach, Rises, Line, Names, MakeErr, JobSessionLaw, SameTablesLaw, Entries, looked_up, Report, Ends, EndsOrWants, bound_refused, out_of_memory, EndsBy, relations_report, of_relations, closed, AreClosed, has_letter, text_structure, ArePlanned, making_error, making_over, cause_report, making_report, plan_report}
+use Rattle.amp_plan.specs.Limits.{Tells}
 use Rattle.ask_seats.specs.Sessions.{told}
-use Rattle.command_words.specs.Bounds.{is_bound, reach}
-use Rattle.command_words.specs.Lines.{Rises}
-use Rattle.command_words.specs.declared.line.Line.{Line}
 use Rattle.command_words.specs.declared.line.Line.TheVariants.{Ask, Finish}
-use Rattle.named_families.specs.Families.{Names}
-use Rattle.named_families.specs.declared.petersson.MakeErr.{MakeErr}
 use Rattle.named_families.specs.declared.petersson.MakeErr.TheVariants as make
-use Rattle.series_law.specs.Jobs.{JobSessionLaw}
-use Rattle.series_law.specs.SameTables.{SameTablesLaw}
-use Rattle.sparse_tensor.specs.Entries.{Entries, looked_up}
-use Rattle.run_reports.specs.Report.{Report, Ends, EndsOrWants, bound_refused, out_of_memory}
-use Rattle.run_reports.specs.Ends.{EndsBy}
-use Rattle.run_reports.specs.Relations.{relations_report, of_relations, closed}
 use Rattle.session_law.specs.Sessions.{answered, session_of, session_report, stored_session, AreShown}
-use Rattle.run_reports.specs.Structures.{AreClosed, has_letter, text_structure}
-use Rattle.run_reports.specs.StructureTables.{ArePlanned, making_error, making_over}
-use Rattle.run_reports.specs.Tables.{cause_report, making_report, plan_report}
 use Rattle.run_reports.proofs.ReportLemmas.{ends_by, told_cause}
 use Rattle.session_law.proofs.SessionLemmas.{SessionLaws, session-bound, session-stood, same_told, shown_law, text-made, text-planned}
 use Rattle.run_reports.proofs.StatusLemmas.{status_of}
-use Rattle.run_reports.proofs.TextLemmas.{own_of}
+use Rattle.run_reports.proofs.TextLemmas.{own_of, fails_by}
 use Rattle.airy_wait.specs.Finished.{finished_asks}
 use Rattle.airy_wait.specs.Turns.{plan_replies}
 use Rattle.airy_wait.specs.Waiting.{replies_of, stored_waiting, waiting_report, closed_waiting, LeadsToClosedWaiting, LeadsToWaiting}
@@ -122,24 +97,12 @@ module _ (t : Entries) (X : ℕ) (keys : List Key) (before now : Taking) (result
       → EndsBy (LeadsToClosedWaiting X keys t) before now result
   closed-leads e close = (e.0, record { waiting = e.1; own = own_of own X t; accepted = λ h. close }, e.2)
 
-  fails-with : (report : Report) → report ≡ closed_waiting X keys t → report.status ≢ 0 → Ends report before now result
-      → EndsBy (LeadsToClosedWaiting X keys t) before now result
-  fails-with report said some e = (
-    report,
-    record {
-      waiting = leads_of (text_structure t) X keys (closed_waiting X keys t) report (inl said) (λ h. absurd (some h));
-      own = own_of own X t;
-      accepted = λ h. absurd (some h);
-    },
-    e,
-  )
-
   -- and where the relations fail first
   pub fails-leads : (v : Verdict) → v ≡ verdict (looked_up t) t.dim → (v ≡ Closed → ⊥) → Ends (relations_report v closed) before now result
       → EndsBy (LeadsToClosedWaiting X keys t) before now result
-  unfolding closed_waiting of_relations relations_report
-  fails-leads Closed found fails e = absurd (fails refl)
-  fails-leads (Differs rel place left right) found fails e =
-      fails-with (relations_report (Differs rel place left right) closed) (ap (λ v. relations_report v (waiting_report (text_structure t) X keys)) found) (λ h. omega arith) e
-  fails-leads (Over rel place) found fails e =
-      fails-with (relations_report (Over rel place) closed) (ap (λ v. relations_report v (waiting_report (text_structure t) X keys)) found) (λ h. omega arith) e
+  unfolding closed_waiting
+  fails-leads v found fails e = fails_by t (waiting_report (text_structure t) X keys) before now result v found fails (λ r said low high. record {
+    waiting = leads_of (text_structure t) X keys (closed_waiting X keys t) r (inl said) (λ h. absurd (omega (arith, h, low)));
+    own = own_of own X t;
+    accepted = λ h. absurd (omega (arith, h, low));
+  }) e

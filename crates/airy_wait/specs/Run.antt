@@ -12,7 +12,8 @@ use Rattle.airy_wait.specs.Waiting.{LeadsToClosedWaiting, LeadsToFamilyWaiting}
 -- the reports that a reading of the words may lead to
 abbrev pub Leads : Reading → Run → Report → Type 0
 Leads (Waiting (Named family) X workers callers keys) run report = LeadsToFamilyWaiting family X keys report
-Leads (Waiting Text X workers callers keys) run report = LeadsWithBound X (LeadsToClosedWaiting X keys) run.source_before run.source_after report
+Leads (Waiting Text X workers callers keys) run report =
+    LeadsWithBound X (LeadsToClosedWaiting X keys) run.source_before run.source_after report
 Leads (Refused place) run report = report ≡ word_refused place
 
 -- words that ask for no text, or for a bound that is refused before one is read

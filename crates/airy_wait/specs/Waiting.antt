@@ -22,7 +22,8 @@ replies_of s X keys = map (told (planned_tensors s X) (has_letter s) X) keys
 
 -- ---- what is written
 
--- The line of the first step that refuses, or the lines of the replies: of a structure, and of a text's entries, whose relations come first.
+-- The line of the first step that refuses, or the lines of the replies: of a structure, and of a text's entries, whose relations
+-- come first.
 unfoldable pub waiting_report : Structure → ℕ → List Key → Report
 waiting_report s X keys = session_report s X X (replies_of s X keys)
 
@@ -34,7 +35,8 @@ closed_waiting X keys t = of_relations t (waiting_report (text_structure t) X ke
 -- solution.
 pub record LeadsToWaiting (s : Structure) (X : ℕ) (keys : List Key) (whole report : Report) : Type 0 where
   pub said : (report ≡ whole) ⊎ (IsTrue (is_bound X) × (report ≡ out_of_memory))
-  pub one : (crew : ℕ) (replies : List Reply) → Admitted (session_of s X crew) X (finished_asks keys) replies ↔ (replies ≡ replies_of s X keys)
+  pub one : (crew : ℕ) (replies : List Reply)
+      → Admitted (session_of s X crew) X (finished_asks keys) replies ↔ (replies ≡ replies_of s X keys)
   pub headline : report.status ≡ 0 → AreShown s X X (finished_asks keys) (replies_of s X keys)
 
 -- That of a named structure.

@@ -20,14 +20,14 @@ use amp_plan::Plan;
 use cell_words::{CountSeat, Countdown};
 use command_words::is_bound;
 use run_reports::{
-    refuse_bound, refuse_making, refuse_memory, refuse_plan, refuse_text, say_verdict, tensors_of,
+    read_bounded, refuse_bound, refuse_input, refuse_making, refuse_memory, refuse_plan,
+    say_verdict, tensors_of,
 };
 use series_law::{job_session, same_tables, widened_relations};
 use sparse_tensor::Tensors;
 use std::alloc::Global;
 use std::sync::Wait;
 use std::thread::Threads;
-use tensor_text::read_tensors;
 
 /// Does a job at a named structure.
 pub(crate) fn wait_on_family<R: Threads + Wait + Sync, W: Sink>(
@@ -67,12 +67,9 @@ pub(crate) fn wait_on_text<R: Threads + Wait + Sync, S: Source, W: Sink>(
     ensures { EndsWithBound bound (LeadsToClosedWaiting bound (keys_asked job.entry))
         (S.state src.old) (S.state src.new) (W.state out.old) (W.state out.new) result }
 {
-    if !is_bound(bound) {
-        return refuse_bound(out, bound);
-    }
-    match read_tensors(alloc, src) {
+    match read_bounded(alloc, bound, src) {
         Ok(tensors) => wait_closed(rt, alloc, tensors, bound as u8, job, out),
-        Err(refusal) => refuse_text(out, refusal),
+        Err(refusal) => refuse_input(out, refusal),
     }
 }
 

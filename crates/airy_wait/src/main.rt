@@ -3,8 +3,6 @@
 //! is promised.
 #![tactic(auto)]
 
-ghost use Rattle.std.specs.Prelude.{◌≡◌, ◌⊎◌, IfErr};
-
 mod bell;
 mod callers;
 mod jobs;
@@ -23,8 +21,8 @@ use airy_io::{StdSink, StdSource};
 pub use bell::Bell;
 pub use laws::{first_refused_word, one_list};
 pub use rounds::fill_round;
+use run_reports::words_given;
 use std::process::ExitCode;
-use std::{env, io};
 pub use top::{run_waiting, serve};
 pub use waits::{Told, ask_wait};
 pub use words::{Asked, Job, read_wait_words};
@@ -45,17 +43,4 @@ fn main(rt: HostRuntime) -> ExitCode {
         faults: 0,
     };
     serve(&rt, rt.alloc(), &words, &mut source, &mut sink)
-}
-
-/// The words behind the program's name, or the status to end with.
-fn words_given(rt: &HostRuntime) -> Result<Vec<String>, u8>
-    ensures status { IfErr result (λ s. (s ≡ 1) ⊎ (s ≡ 10)) }
-{
-    let mut args = match env::args(rt) {
-        Ok(args) => args,
-        Err(error) if error.kind() == io::ErrorKind::OutOfMemory => return Err(10),
-        Err(_) => return Err(1),
-    };
-    let _name = args.next();
-    args.collect(rt.alloc()).map_err(|_| 10)
 }

@@ -1,7 +1,7 @@
 use crate::top::{run_waiting, serve};
 use airy_io::{MemSink, MemSource, Source, SteadySource};
 use std::alloc::{AllocError, Global};
-use std::process::{Abort, ExitCode};
+use std::process::ExitCode;
 use std::sync::Wait;
 use std::test::Fail;
 use std::thread::Threads;
@@ -29,31 +29,29 @@ fn sink_of(alloc: Global, fail_at: &[u32]) -> Result<MemSink, AllocError> {
     })
 }
 
-/// What a run answered, and its sink.
-#[derive(Drop)]
-struct Ended {
-    status: u8,
-    sink: MemSink,
+/// The status of a run.
+fn status_of<R: Threads + Wait + Sync, S: Source>(
+    rt: &R,
+    alloc: Global,
+    words: &[String],
+    source: &mut S,
+    sink: &mut MemSink,
+) -> u8 {
+    run_waiting(rt, alloc, words, source, sink)
 }
 
-impl Ended {
-    /// Whether this is the status, and these are the bytes that were written.
-    fn is(&self, status: u8, bytes: &[u8]) -> bool {
-        self.status == status && &self.sink.space[..self.sink.taken] == bytes
-    }
-}
-
-/// Runs words over a source, into a sink that fails at some calls.
-fn run_words<R: Threads + Wait + Sync, S: Source>(
+/// Whether words over a source, with a sink that fails at some calls, lead to this status and these bytes.
+fn leads_to<R: Threads + Wait + Sync, S: Source>(
     rt: &R,
     alloc: Global,
     words: &[String],
     source: &mut S,
     fail_at: &[u32],
-) -> Result<Ended, AllocError> {
+    want: (u8, &[u8]),
+) -> Result<bool, AllocError> {
     let mut sink = sink_of(alloc, fail_at)?;
-    let status = run_waiting(rt, alloc, words, source, &mut sink);
-    Ok(Ended { status, sink })
+    let status = status_of(rt, alloc, words, source, &mut sink);
+    Ok(status == want.0 && &sink.space[..sink.taken] == want.1)
 }
 
 fn steady(alloc: Global, text: &[u8]) -> Result<SteadySource, AllocError> {
@@ -63,18 +61,30 @@ fn steady(alloc: Global, text: &[u8]) -> Result<SteadySource, AllocError> {
     })
 }
 
-/// Runs each case, and asserts that it answers the status and writes the bytes.
-fn assert_told<R: Threads + Wait + Sync + Abort>(
+/// Whether a case answers its status and writes its bytes, with a sink that fails at some calls.
+fn is_told<R: Threads + Wait + Sync>(
+    rt: &R,
+    alloc: Global,
+    case: &Case,
+    fail_at: &[u32],
+) -> Result<bool, AllocError> {
+    let words = words_of(alloc, case.0)?;
+    let mut source = steady(alloc, case.1)?;
+    leads_to(rt, alloc, &words, &mut source, fail_at, (case.2, case.3))
+}
+
+/// Whether each case does, where no call fails.
+fn are_told<R: Threads + Wait + Sync>(
     rt: &R,
     alloc: Global,
     cases: &[Case],
-) -> Result<(), Fail> {
-    for (line, text, status, bytes) in cases.iter() {
-        let words = words_of(alloc, line)?;
-        let told = run_words(rt, alloc, &words, &mut steady(alloc, text)?, &[])?;
-        assert!(rt; told.is(*status, bytes), "{}", line);
+) -> Result<bool, AllocError> {
+    for case in cases.iter() {
+        if !is_told(rt, alloc, case, &[])? {
+            return Ok(false);
+        }
     }
-    Ok(())
+    Ok(true)
 }
 
 /// A text with one index and an entry 2^126, of which three are out of range.
@@ -138,7 +148,8 @@ const REPLIES: [Case; 9] = [
 
 #[test]
 fn replies_in_order(rt: HostRuntime) -> Result<(), Fail> {
-    assert_told(&rt, rt.alloc(), &REPLIES)
+    assert!(rt; are_told(&rt, rt.alloc(), &REPLIES)?);
+    Ok(())
 }
 
 /// Words, bounds, texts and structures that are refused. A bound comes before the text.
@@ -188,7 +199,8 @@ const REFUSED: [Case; 21] = [
 
 #[test]
 fn what_is_refused(rt: HostRuntime) -> Result<(), Fail> {
-    assert_told(&rt, rt.alloc(), &REFUSED)
+    assert!(rt; are_told(&rt, rt.alloc(), &REFUSED)?);
+    Ok(())
 }
 
 /// `wk 3 2 CALLERS` with so many asks, every third of which is for 0,4 [0 0 0 1], and the others for 1,1 [0].
@@ -214,25 +226,51 @@ fn many_lines(alloc: Global, asks: usize) -> Result<Vec<u8>, AllocError> {
 /// The numbers of callers.
 const CALLERS: [&str; 8] = ["1", "2", "3", "4", "5", "6", "7", "8"];
 
+/// Whether so many asks of so many callers lead to this status and these bytes.
+fn are_asked<R: Threads + Wait + Sync>(
+    rt: &R,
+    alloc: Global,
+    callers: &str,
+    asks: usize,
+    want: (u8, &[u8]),
+) -> Result<bool, AllocError> {
+    let words = many_asks(alloc, callers, asks)?;
+    let mut source = steady(alloc, b"")?;
+    leads_to(rt, alloc, &words, &mut source, &[], want)
+}
+
+/// Whether they do whatever the number of callers.
+fn are_shared<R: Threads + Wait + Sync>(
+    rt: &R,
+    alloc: Global,
+    asks: usize,
+    want: (u8, &[u8]),
+) -> Result<bool, AllocError> {
+    for callers in CALLERS {
+        if !are_asked(rt, alloc, callers, asks, want)? {
+            return Ok(false);
+        }
+    }
+    Ok(true)
+}
+
 // 256 asks are answered, whatever the number of callers; the last of 257 is refused.
 #[test]
 fn many_asks_are_shared_out(rt: HostRuntime) -> Result<(), Fail> {
-    let alloc = rt.alloc();
-    let lines = many_lines(alloc, 256)?;
-    for callers in CALLERS {
-        let words = many_asks(alloc, callers, 256)?;
-        let told = run_words(&rt, alloc, &words, &mut steady(alloc, b"")?, &[])?;
-        assert!(rt; told.is(0, lines.as_slice()), "{}", callers);
-        let words = many_asks(alloc, callers, 257)?;
-        let told = run_words(&rt, alloc, &words, &mut steady(alloc, b"")?, &[])?;
-        assert!(rt; told.is(2, b"refused: word 261\n"), "{}", callers);
-    }
+    let lines = many_lines(rt.alloc(), 256)?;
+    assert!(rt; are_shared(&rt, rt.alloc(), 256, (0, lines.as_slice()))?);
     Ok(())
 }
 
 #[test]
-fn a_source_that_fails(rt: HostRuntime) -> Result<(), Fail> {
-    let alloc = rt.alloc();
+fn one_ask_more_is_refused(rt: HostRuntime) -> Result<(), Fail> {
+    let want = (2u8, b"refused: word 261\n".as_slice());
+    assert!(rt; are_shared(&rt, rt.alloc(), 257, want)?);
+    Ok(())
+}
+
+/// Whether a source that fails at its second call ends the run with 8.
+fn is_fault<R: Threads + Wait + Sync>(rt: &R, alloc: Global) -> Result<bool, AllocError> {
     let mut source = MemSource {
         bytes: Vec::from_slice(alloc, LARGE)?,
         at: 0,
@@ -241,30 +279,50 @@ fn a_source_that_fails(rt: HostRuntime) -> Result<(), Fail> {
         faults: 0,
     };
     let words = words_of(alloc, "- 3 1 1 0:0,0,0")?;
-    let told = run_words(&rt, alloc, &words, &mut source, &[])?;
-    assert!(rt; told.is(8, b"refused: read fault\n"));
+    let want = (8u8, b"refused: read fault\n".as_slice());
+    leads_to(rt, alloc, &words, &mut source, &[], want)
+}
+
+#[test]
+fn a_source_that_fails(rt: HostRuntime) -> Result<(), Fail> {
+    assert!(rt; is_fault(&rt, rt.alloc())?);
     Ok(())
 }
 
-// Each line is one call: the third isn't written, or the refusal's.
+/// Each line is one call: the third of the first isn't written, nor the refusal's.
+const CUT: [Case; 2] = [
+    ("wk 3 2 2 0:1,0,0,0 1:5 3:7 0:0,0,0,0", b"", 9, b"3\nzero\n"),
+    ("wk 0 1 1 0:0,0,0", b"", 9, b""),
+];
+
 #[test]
 fn a_sink_that_fails(rt: HostRuntime) -> Result<(), Fail> {
-    let alloc = rt.alloc();
-    let words = words_of(alloc, "wk 3 2 2 0:1,0,0,0 1:5 3:7 0:0,0,0,0")?;
-    let told = run_words(&rt, alloc, &words, &mut steady(alloc, b"")?, &[2])?;
-    assert!(rt; told.is(9, b"3\nzero\n"));
-    let words = words_of(alloc, "wk 0 1 1 0:0,0,0")?;
-    let told = run_words(&rt, alloc, &words, &mut steady(alloc, b"")?, &[0])?;
-    assert!(rt; told.is(9, b""));
+    let behind = is_told(&rt, rt.alloc(), &CUT[0], &[2])?;
+    assert!(rt; behind && is_told(&rt, rt.alloc(), &CUT[1], &[0])?);
     Ok(())
+}
+
+/// The code of a program with these words.
+fn code_of<R: Threads + Wait + Sync>(
+    rt: &R,
+    alloc: Global,
+    words: &[String],
+    source: &mut SteadySource,
+    sink: &mut MemSink,
+) -> ExitCode {
+    serve(rt, alloc, words, source, sink)
+}
+
+/// Whether missing words end the program with 2.
+fn is_served<R: Threads + Wait + Sync>(rt: &R, alloc: Global) -> Result<bool, AllocError> {
+    let words = words_of(alloc, "wk 1 1 1")?;
+    let mut source = steady(alloc, b"")?;
+    let mut sink = sink_of(alloc, &[])?;
+    Ok(code_of(rt, alloc, &words, &mut source, &mut sink) == ExitCode::from(2))
 }
 
 #[test]
 fn the_status_ends_the_program(rt: HostRuntime) -> Result<(), Fail> {
-    let alloc = rt.alloc();
-    let words = words_of(alloc, "wk 1 1 1")?;
-    let mut sink = sink_of(alloc, &[])?;
-    let code = serve(&rt, alloc, &words, &mut steady(alloc, b"")?, &mut sink);
-    assert!(rt; code == ExitCode::from(2));
+    assert!(rt; is_served(&rt, rt.alloc())?);
     Ok(())
 }

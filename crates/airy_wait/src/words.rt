@@ -1,10 +1,9 @@
 ghost use Rattle.std.specs.Prelude.{◌≡◌, ◌+◌, ◌≤◌, ◌<◌, ◌^◌, map, string_bytes, length, IfOk, OnOk};
 ghost use Rattle.command_words.specs.Asked.{kind_of};
 ghost use Rattle.command_words.specs.Words.{kind_of_word};
-ghost use Rattle.more_words.specs.MoreWords.{next_read};
-ghost use Rattle.more_words.specs.Refusals.{FindsFirst};
+ghost use Rattle.command_words.specs.Options.{next_read};
 ghost use Rattle.more_words.specs.Asked.{numbered_of, taken, whole, IsLeft};
-ghost use Rattle.airy_wait.specs.Words.{all_keys, key_of_word, keys, read_waiting, reading_of, refused_of, refuses};
+ghost use Rattle.airy_wait.specs.Words.{all_keys, key_of_word, keys, read_waiting, reading_of, RefusesFirst};
 ghost use Rattle.airy_wait.specs.Asked.{keys_of, reading, reading_by, AreKeys, IsFit};
 
 use airy_index::Key;
@@ -42,10 +41,10 @@ const MOST_ASKS: usize = 256;
 ///
 /// The words are `KIND X WORKERS CALLERS ASK...`: KIND is `wk`, `bgw`, `wp` or `-`, X is of 1 to 9 digits, WORKERS and CALLERS are of 1
 /// to 3, with values from 1 to 16 and from 1 to 8. There are 1 to 256 words ASK, each `G:D,D,..`. Zeros may lead.
-#[tactic(auto, unfolding(crate::specs::Words::reading_of), using(crate::proofs::FirstLaw::refuses_first))]
+#[tactic(auto, unfolding(crate::specs::Words::reading_of), using(crate::proofs::FirstLaw::wait_refuses_first))]
 pub fn read_wait_words(words: &[String]) -> Asked<'_>
     ensures reading { reading result ≡ reading_of (map string_bytes words.now) }
-    ensures refused { FindsFirst refuses (refused_of (reading result)) (map string_bytes words.now) }
+    ensures refused { RefusesFirst (reading result) (map string_bytes words.now) }
     ensures fit { IsFit result }
 {
     match read_line(Left { before: 0, words }) {

@@ -1,25 +1,12 @@
 -- The lines of the numbers of brackets, one after the other.
-use Rattle.std.proofs.Common.{◌≡◌, ◌≢◌, ℕ, refl, sym, ap, ◌∙◌, [], ◌∷◌, ◌++◌, List, length, ◌<◌, subst, append-nil, append_assoc, arith}
-use Rattle.std.specs.Prelude.{Bool, true, false, not, is_some, cond, codes, Option, Some, None, Ok, Err}
+use Rattle.std.proofs.Common.{◌≡◌, ◌≢◌, ℕ, refl, sym, ap, ◌∙◌, [], ◌∷◌, ◌++◌, List, length, ◌<◌, subst, append-nil, append_assoc, arith, Bool, true, false, not, is_some, cond, codes, Option, Some, None, Ok, Err}
+use Rattle.run_reports.proofs.Names.{AppendsPrefix, Taking, Writes, ℚ, ℚ_computes, 0ℚ, Tensors, is_zero, fraction_text, Entries, looked_up, AreSound, Verdict, Closed, Differs, Over, verdict, Report, Ends, EndsBy, closed, of_relations, relations_report}
 use Rattle.std.specs.Io.KnownBytes.{Appends}
-use Rattle.airy_io.specs.Causes.{AppendsPrefix, Taking, Writes}
 use Rattle.airy_io.proofs.Prefixes.{AppendsPrefix-more}
-use Rattle.airy_math.specs.Rational.{ℚ, ℚ_computes}
-use Rattle.airy_math.specs.RationalLaws.{0ℚ}
-use Rattle.airy_math.specs.Tensors.{Tensors, is_zero}
 use Rattle.airy_math.specs.Sums.{each}
 use Rattle.airy_math.proofs.PivotLemmas.{zero_number}
-use Rattle.frac128.specs.Fraction.{fraction_text}
-use Rattle.sparse_tensor.specs.Entries.{Entries, looked_up}
-use Rattle.sparse_tensor.specs.Grades.{AreSound}
-use Rattle.airy_relations.specs.declared.verdict.Verdict.{Verdict}
-use Rattle.airy_relations.specs.declared.verdict.Verdict.TheVariants.{Closed, Differs, Over}
-use Rattle.airy_relations.specs.Verdicts.{verdict}
 use Rattle.airy_closing.specs.Closing.{BracketLaw, OperatorsClose, structure_constant}
 use Rattle.airy_closing.specs.Constants.{CloseByConstants, TellsClosing}
-use Rattle.run_reports.specs.Report.{Report, Ends}
-use Rattle.run_reports.specs.Ends.{EndsBy}
-use Rattle.run_reports.specs.Relations.{closed, of_relations, relations_report}
 use Rattle.airymore.specs.declared.places.Place.{Place}
 use Rattle.airymore.specs.Places.{from, from_any, places}
 use Rattle.airymore.specs.Brackets.{brackets_report, first_over, found_report, number_at, number_text, numbers_report, numbers_text, obtained_at, over_or, place_text, IsBrackets, LeadsToBrackets}

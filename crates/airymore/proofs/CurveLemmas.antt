@@ -1,37 +1,18 @@
 -- What the report of a curve's table says of the solutions of the curve.
-use Rattle.std.proofs.Common.{◌≡◌, inl, inr, ℕ, suc, ◌<◌, ◌≤◌, refl, sym, ap, ◌∙◌, subst, arith, length, List, [], ◌++◌, get_or, append-nil, rules}
-use Rattle.std.specs.Prelude.{Option, Some, None, Bool, true, false, cond, IsTrue, codes}
-use Rattle.airy_io.specs.Causes.{Taking}
-use Rattle.airy_index.specs.Text.{key_text}
-use Rattle.airy_math.specs.BelowDim.{BelowDimLaw}
-use Rattle.airy_math.specs.Families.{top_wk}
-use Rattle.airy_math.specs.Keys.{Key}
-use Rattle.airy_math.specs.Planned.{planned}
-use Rattle.airy_math.specs.Ranks.{PlanLaw, key_at}
-use Rattle.airy_math.specs.Rational.{ℚ}
-use Rattle.airy_math.specs.Tensors.{Tensors, SameEntries}
-use Rattle.sparse_tensor.specs.Entries.{Entries}
-use Rattle.airy_curve.specs.Curve.{curve, number_of, of_list}
+use Rattle.std.proofs.Common.{◌≡◌, inl, inr, ℕ, suc, ◌<◌, ◌≤◌, refl, sym, ap, ◌∙◌, subst, arith, length, List, [], ◌++◌, get_or, append-nil, rules, Option, Some, None, Bool, true, false, cond, IsTrue, codes}
+use Rattle.run_reports.proofs.Names.{Taking, key_text, BelowDimLaw, top_wk, Key, planned, PlanLaw, key_at, ℚ, Tensors, SameEntries, Entries, Limit, Within, PassesBound, PassesCells, PassesNeeds, limit, outcomes, full_table, value_of, fraction_text, check, check_keys, HasValue, SameTablesLaw, is_bound, EndsBy, Report, Ends, EndsOrWants, bound_refused, out_of_memory, row_text, checked_report, making_report, plan_report, cells_report, orders_differ, stored_report, verdict_of}
+use Rattle.run_reports.proofs.StructureLemmas.{entries_self}
+use Rattle.airy_math.specs.Curves.{curve, number_of, of_list}
 use Rattle.airy_curve.specs.Steps.{curve_refusal}
 use Rattle.airy_curve.specs.Storing.{Names, StandsFor}
 use Rattle.airy_curve.specs.declared.making.CurveErr.{CurveErr}
 use Rattle.airy_curve.specs.declared.making.CurveErr.TheVariants as error
-use Rattle.amp_plan.specs.Limits.{Limit, Within, PassesBound, PassesCells, PassesNeeds, limit}
 use Rattle.amp_terms.specs.declared.Outcome.TheVariants.{Over}
-use Rattle.amp_terms.specs.Outcomes.{outcomes}
-use Rattle.amp_terms.specs.Tables.{full_table, value_of}
 use Rattle.amp_terms.specs.Text.{value_text, power_text}
-use Rattle.frac128.specs.Fraction.{fraction_text}
 use Rattle.curve_law.specs.Tables.{CurveTableLaw, IsCurveTable}
-use Rattle.series_law.specs.Check.{Verdict, check, check_keys}
+use Rattle.series_law.specs.Check.{Verdict}
 use Rattle.series_law.specs.Check as check
-use Rattle.series_law.specs.Jobs.{HasValue}
-use Rattle.series_law.specs.SameTables.{SameTablesLaw}
 use Rattle.amp_terms.proofs.OutcomeLemmas.{length-outcomes}
-use Rattle.command_words.specs.Bounds.{is_bound}
-use Rattle.run_reports.specs.Ends.{EndsBy}
-use Rattle.run_reports.specs.Report.{Report, Ends, EndsOrWants, bound_refused, out_of_memory}
-use Rattle.run_reports.specs.Tables.{row_text, checked_report, making_report, plan_report, cells_report, orders_differ, stored_report, verdict_of}
 use Rattle.run_reports.proofs.LineLemmas.{lines_of, rows-lines, length-lines, line_at, values_found, differ_of}
 use Rattle.run_reports.proofs.StatusLemmas.{IsPlain, plain_bound, plain_cells, plain_making, plain_plan, some_bound, status_of}
 use Rattle.run_reports.proofs.StoredLemmas.{stored_same}
@@ -69,16 +50,6 @@ curve_steps us X = by (is_bound X) refl (curve_refusal (of_list us) (suc (top_wk
 
 -- ---- what it says
 
-same_self : (T : Tensors) → SameEntries T T
-same_self T = record {
-  dim = refl;
-  shape = refl;
-  A = λ i j k p q r. refl;
-  B = λ i j k p q r. refl;
-  C = λ i j k p q r. refl;
-  D = λ i p. refl;
-}
-
 -- the line of a Value without a letter
 line_text : (key : Key) (w : ℚ) → key_text key ++ codes " " ++ value_text w 0 ++ codes "\n" ≡ key_text key ++ codes " " ++ fraction_text w ++ codes "\n"
 unfolding value_text power_text
@@ -96,7 +67,7 @@ module _ (laws : CurveLaws) (us : List ℚ) (X : ℕ) (bounded : is_bound X ≡ 
 
   table : (M : ℕ) → top_wk X ≤ M → IsCurveTable T (number_of (of_list us)) X M
   unfolding curve_tensors
-  table M h = laws.tables T (number_of (of_list us)) X M (some_bound X bounded) (same_self T) h
+  table M h = laws.tables T (number_of (of_list us)) X M (some_bound X bounded) (entries_self T) h
 
   module _ (found : verdict_of (curve_tensors us X) X ≡ check.Solution) where
     line_there : (r : ℕ) → r < length keys → IsCurveLine us X (key_at keys r) (get_or lines r [])

@@ -1,26 +1,15 @@
 -- What the report of a curve's relations says of them.
-use Rattle.std.proofs.Common.{◌≡◌, ◌≢◌, inl, inr, ℕ, ◌+◌, ◌*◌, ◌≤◌, refl, subst, arith, List}
-use Rattle.std.specs.Prelude.{Option, Some, None}
-use Rattle.airy_io.specs.Causes.{Taking}
-use Rattle.airy_math.specs.Rational.{ℚ}
-use Rattle.airy_math.specs.RationalLaws.{1ℚ}
-use Rattle.airy_math.specs.Relations.{Close}
-use Rattle.sparse_tensor.specs.Entries.{Entries, looked_up}
-use Rattle.airy_relations.specs.declared.verdict.Verdict.{Verdict}
-use Rattle.airy_relations.specs.declared.verdict.Verdict.TheVariants.{Closed, Differs, Over}
+use Rattle.std.proofs.Common.{◌≡◌, ◌≢◌, inl, inr, ℕ, ◌+◌, ◌*◌, ◌≤◌, refl, subst, arith, List, Option, Some, None}
+use Rattle.run_reports.proofs.Names.{Taking, ℚ, 1ℚ, Close, Entries, looked_up, Verdict, Closed, Differs, Over, SameVerdictLaw, verdict, EndsBy, Report, Ends, out_of_memory, closed, relations_report, making_report}
+use Rattle.run_reports.proofs.RelationLemmas.{no_four}
 use Rattle.airy_relations.specs.NoDifference.{FindsNoDifference, NoDifferenceLaw}
-use Rattle.airy_relations.specs.SameVerdict.{SameVerdictLaw}
-use Rattle.airy_relations.specs.Verdicts.{verdict}
-use Rattle.airy_curve.specs.Curve.{CurveRelations, curve, number_of, numbers_down, first_or_zero, of_list}
+use Rattle.airy_math.specs.Curves.{curve, number_of, numbers_down, first_or_zero, of_list}
+use Rattle.airy_curve.specs.Curve.{CurveRelations}
 use Rattle.airy_curve.specs.Shapes.{CurveShapes}
 use Rattle.airy_curve.specs.Steps.{curve_refusal}
 use Rattle.airy_curve.specs.Storing.{Names, StandsFor}
 use Rattle.airy_curve.specs.declared.making.CurveErr.{CurveErr}
 use Rattle.airy_curve.specs.declared.making.CurveErr.TheVariants as error
-use Rattle.run_reports.specs.Ends.{EndsBy}
-use Rattle.run_reports.specs.Report.{Report, Ends, out_of_memory}
-use Rattle.run_reports.specs.Relations.{closed, relations_report}
-use Rattle.run_reports.specs.Tables.{making_report}
 use Rattle.run_reports.proofs.StatusLemmas.{IsPlain, plain_closed, plain_making, plain_relations}
 use Rattle.airymore.specs.Curves.{curve_below, curve_relations_report, curve_error, LeadsToCurveRelations}
 
@@ -35,12 +24,6 @@ pub record RelationLaws : Type 0 where
 pub stored_places : (us : List ℚ) (n : ℕ) (t : Entries) → StandsFor t (curve_below us n) → n ≤ t.dim
 unfolding curve_below curve looked_up
 stored_places us n t stands = omega (arith, stands.entries.dim)
-
-no_four : (v : Verdict) → FindsNoDifference v → (relations_report v closed).status ≢ 4
-unfolding FindsNoDifference relations_report closed
-no_four Closed d = λ e. omega arith
-no_four (Differs rel place left right) d = absurd d
-no_four (Over rel place) d = λ e. omega arith
 
 making_four : (o : Option ℕ) (next : Report) → next.status ≢ 4 → (making_report o next).status ≢ 4
 unfolding making_report

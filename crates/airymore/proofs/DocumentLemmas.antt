@@ -1,63 +1,26 @@
 -- What the document of a structure's table says of the solutions.
-use Rattle.std.proofs.Common.{◌≡◌, ◌≢◌, ◌⊎◌, inl, inr, ℕ, zero, suc, ◌<◌, ◌≤◌, refl, sym, ap, ap₂, ◌∙◌, subst, arith, length, List, [], ◌∷◌, get_or, map}
-use Rattle.std.specs.Prelude.{Option, Some, None, Bool, true, false, cond, IsTrue, nat_eq}
-use Rattle.airy_io.specs.Causes.{Taking}
-use Rattle.airy_math.specs.BelowDim.{BelowDimLaw}
-use Rattle.airy_math.specs.Keys.{Key}
-use Rattle.airy_math.specs.Planned.{planned}
-use Rattle.airy_math.specs.Ranks.{PlanLaw, key_at}
-use Rattle.airy_math.specs.Rational.{ℚ}
-use Rattle.airy_math.specs.RationalLaws.{0ℚ}
-use Rattle.airy_math.specs.Tensors.{Tensors}
-use Rattle.airy_math.specs.OwnTensors.{OwnTensorsLaw}
-use Rattle.airy_math.specs.Cuts.{letter_of}
-use Rattle.airy_math.specs.Jobs.{Structure, IsSound, IsSolutionOf, Text, Lettered, letter_value, planned_tensors, tensors_at}
-use Rattle.airy_math.specs.Series.{Series}
-use Rattle.airy_exists.specs.Existence.{NoOrdersLaw}
-use Rattle.airy_relations.specs.declared.verdict.Verdict.{Verdict}
-use Rattle.airy_relations.specs.declared.verdict.Verdict.TheVariants.{Closed, Differs, Over}
-use Rattle.airy_relations.specs.Verdicts.{verdict}
-use Rattle.sparse_tensor.specs.Entries.{Entries, looked_up}
-use Rattle.sparse_tensor.specs.Grades.{AreSound}
-use Rattle.amp_plan.specs.Plans.{Planning, tensors_of, keys_of}
-use Rattle.amp_plan.specs.Limits.{Within, limit_of, Tells}
-use Rattle.amp_plan.specs.declared.PlanCause.{PlanCause}
-use Rattle.amp_terms.specs.declared.Outcome.{Outcome}
+use Rattle.std.proofs.Common.{◌≡◌, ◌≢◌, ◌⊎◌, inl, inr, ℕ, zero, suc, ◌<◌, ◌≤◌, refl, sym, ap, ap₂, ◌∙◌, subst, arith, length, List, [], ◌∷◌, get_or, map, Option, Some, None, Bool, true, false, cond, IsTrue, nat_eq}
+use Rattle.run_reports.proofs.Names.{Taking, BelowDimLaw, Key, planned, PlanLaw, key_at, ℚ, 0ℚ, Tensors, OwnTensorsLaw, letter_of, Structure, IsSound, IsSolutionOf, Lettered, letter_value, planned_tensors, tensors_at, Series, NoOrdersLaw, Verdict, Closed, Differs, Over, verdict, Entries, looked_up, AreSound, Planning, tensors_of, keys_of, Within, limit_of, PlanCause, Outcome, outcomes, first_without, full_table, next_rank, value_of, value_of_cell, outcomes_of, check, JobUniquenessLaw, Shown, series_with, SameTablesLaw, is_bound, MakeErr, Names, Report, Ends, EndsOrWants, bound_refused, out_of_memory, EndsBy, relations_report, of_relations, closed, cause_report, stored_report, verdict_of, checked_report, cells_report, ArePlanned, Step, outside, unmade, limited, blank, over, orders, whole, making_error, making_over, structure_of, table_report, making_report, AreClosed, has_letter, text_structure, Headline, HasTwoOrders, ShowsNumber}
+use Rattle.airy_math.specs.Jobs.{Text}
+use Rattle.amp_plan.specs.Limits.{Tells}
 use Rattle.amp_terms.specs.declared.Outcome.TheVariants.{Value, Blocked}
 use Rattle.amp_terms.specs.declared.Outcome.TheVariants as outcome
-use Rattle.amp_terms.specs.Outcomes.{outcomes}
-use Rattle.amp_terms.specs.Tables.{first_without, full_table, next_rank, value_of, value_of_cell}
-use Rattle.constraint_check.specs.Ends.{outcomes_of}
-use Rattle.series_law.specs.Check.{Solution, check}
-use Rattle.series_law.specs.Jobs.{JobUniquenessLaw}
-use Rattle.series_law.specs.Pivots.{Shown, series_with}
-use Rattle.series_law.specs.SameTables.{SameTablesLaw}
+use Rattle.series_law.specs.Check.{Solution}
 use Rattle.amp_terms.proofs.OutcomeLemmas.{length-outcomes}
-use Rattle.command_words.specs.Bounds.{is_bound}
-use Rattle.named_families.specs.declared.petersson.MakeErr.{MakeErr}
 use Rattle.named_families.specs.declared.petersson.MakeErr.TheVariants as make
-use Rattle.named_families.specs.Families.{Names}
 use Rattle.airy_json.specs.Document.{document_text, values_in}
 use Rattle.airy_json.specs.Reading.{Kind, named, text, kind_text}
 use Rattle.airy_json.specs.Verifying.{as_table}
 use Rattle.airy_json.specs.Verified.{job_series}
 use Rattle.airy_json.proofs.GivenLemmas.{length-table, value_listed}
-use Rattle.run_reports.specs.Report.{Report, Ends, EndsOrWants, bound_refused, out_of_memory}
-use Rattle.run_reports.specs.Ends.{EndsBy}
-use Rattle.run_reports.specs.Relations.{relations_report, of_relations, closed}
-use Rattle.run_reports.specs.Tables.{cause_report, stored_report, verdict_of, checked_report, cells_report}
-use Rattle.run_reports.specs.StructureTables.{ArePlanned, Step, outside, unmade, limited, blank, over, orders, whole, making_error, making_over, structure_of, table_report}
-use Rattle.run_reports.specs.Tables.{making_report}
-use Rattle.run_reports.specs.Structures.{AreClosed, has_letter, text_structure}
-use Rattle.run_reports.specs.Headline.{Headline, HasTwoOrders, ShowsNumber}
 use Rattle.run_reports.proofs.HeadlineLemmas.{JobLaws, shown_value}
 use Rattle.run_reports.proofs.LineLemmas.{values_found}
 use Rattle.run_reports.proofs.ReportLemmas.{ends_by, not_whole, report_of_plan, report_of_cause}
 use Rattle.run_reports.proofs.StatusLemmas.{IsPlain, IsOther, plain_of, plain_table, plain_other, other_said, status_of, some_bound}
-use Rattle.run_reports.proofs.StepLaw.{table_steps}
-use Rattle.run_reports.proofs.StructureLemmas.{error_ends, refused_bound, stood_report, text_stored, text_never}
-use Rattle.run_reports.proofs.TableHeadline.{unsolvable_of, family_sound}
-use Rattle.run_reports.proofs.TextLemmas.{text_sound, own_of}
+use Rattle.run_reports.proofs.StructureLemmas.{error_ends, refused_bound, stood_report, text_planned, text_stored, text_never}
+use Rattle.run_reports.proofs.TableHeadline.{unsolvable_of, family_sound, whole_step}
+use Rattle.run_reports.proofs.JobLemmas.{Said}
+use Rattle.run_reports.proofs.TextLemmas.{text_sound, own_of, fails_by}
 use Rattle.airymore.specs.Documents.{structure_of_kind, in_place, table_document, json_report, text_document, ValuesHeadline, DocumentHeadline, LeadsToDocument, LeadsToTextDocument, stored_document, plan_document}
 
 -- ---- other bytes in the place of those of status 0
@@ -132,23 +95,11 @@ module _ (laws : JobLaws) (kind : Kind) (X : ℕ) (sound : IsSound (structure_of
   abbrev s : Structure
   s = structure_of_kind kind
 
-  found_whole : (table_report (structure_of_kind kind) X).status ≡ 0 → (0 < X) × (verdict_of (planned_tensors (structure_of_kind kind) X) X ≡ Solution)
-  found_whole e = by (table_steps s X)
-    where
-      by : Step s X (table_report s X) → (0 < X) × (verdict_of (planned_tensors s X) X ≡ Solution)
-      by (outside b said) = absurd (omega (arith, e, status_of said))
-      by (unmade b k m h) = absurd (omega (arith, e, h))
-      by (limited b m l h) = absurd (omega (arith, e, h))
-      by (blank made r found h) = absurd (omega (arith, e, status_of h))
-      by (over made key i found h) = absurd (omega (arith, e, status_of h))
-      by (orders made key i a j b found h) = absurd (omega (arith, e, status_of h))
-      by (whole made found said) = (some_bound X made.bounded, found)
-
   document_headline : (json_report kind X).status ≡ 0 → DocumentHeadline kind X (json_report kind X).bytes
   unfolding json_report table_document full_table verdict_of
   document_headline e =
       let is_0 : (table_report s X).status ≡ 0 = sym (place_status _ (table_report s X)) ∙ e in
-      let w = found_whole is_0 in
+      let w = whole_step s X is_0 in
       let T : Tensors = planned_tensors s X in
       record {
         values = values_in (full_table T X);
@@ -237,12 +188,8 @@ stood_document kind t X once below tables bounded made stored =
 
 -- that of a text's own tensors
 pub text_stands : (t : Entries) (X : ℕ) → is_bound X ≡ true → json_report (text t) X ≡ stored_document (kind_text (text t)) t X
-unfolding json_report stored_document structure_of_kind text_structure planned_tensors
-text_stands t X bounded = ap₂ in_place (ap (λ (T : Tensors). table_document (kind_text (text t)) T X) (planned_is t.letter)) (text_stored t X bounded)
-  where
-    planned_is : (b : Bool) → planned_tensors (cond b (Lettered (looked_up t)) (Text (looked_up t))) X ≡ looked_up t
-    planned_is true = refl
-    planned_is false = refl
+unfolding json_report stored_document structure_of_kind
+text_stands t X bounded = ap₂ in_place (ap (λ (T : Tensors). table_document (kind_text (text t)) T X) (text_planned t X)) (text_stored t X bounded)
 
 -- where a family's tensors aren't made
 made_not : (s : Structure) (X : ℕ) (why : MakeErr) → is_bound X ≡ true → Names why (making_over s X) → ((making_error why ≡ table_report s X) × (making_error why).status ≢ 0) ⊎ (making_error why ≡ out_of_memory)
@@ -320,25 +267,18 @@ module _ (t : Entries) (X : ℕ) (w w' : Taking) (status : ℕ) where
 
   -- and where they fail first
   pub fails_document : OwnTensorsLaw → (v : Verdict) → v ≡ verdict (looked_up t) t.dim → (v ≡ Closed → ⊥) → Ends (relations_report v closed) w w' status → EndsBy (LeadsToTextDocument X t) w w' status
-  unfolding relations_report of_relations text_document
-  fails_document own Closed found fails e = absurd (fails refl)
-  fails_document own (Differs rel place left right) found fails e =
-      let said : relations_report (Differs rel place left right) closed ≡ of_relations t next = ap (λ v. relations_report v next) found in (
-        relations_report (Differs rel place left right) closed,
-        record { document = other_document (text t) X (of_relations t next) (relations_report (Differs rel place left right) closed) (inl said) (λ h. omega arith) (λ h. omega arith); own = own_of own X t; accepted = λ h. absurd (omega arith); never = λ h. omega (arith, h) },
-        e,
-      )
-  fails_document own (Over rel place) found fails e =
-      let said : relations_report (Over rel place) closed ≡ of_relations t next = ap (λ v. relations_report v next) found in (
-        relations_report (Over rel place) closed,
-        record { document = other_document (text t) X (of_relations t next) (relations_report (Over rel place) closed) (inl said) (λ h. omega arith) (λ h. omega arith); own = own_of own X t; accepted = λ h. absurd (omega arith); never = λ h. omega (arith, h) },
-        e,
-      )
+  unfolding text_document
+  fails_document own v found fails e = fails_by t next w w' status v found fails (λ r said low high. record {
+    document = other_document (text t) X (of_relations t next) r (inl said) (λ h. omega (arith, h, low)) (λ h. omega (arith, h, high));
+    own = own_of own X t;
+    accepted = λ h. absurd (omega (arith, h, low));
+    never = λ h. omega (arith, h, high);
+  }) e
 
--- ---- no document's report is that of a refused word, or of a failed source
+-- ---- a document's report is that of its kind, or want of memory
 
-pub other_json : (kind : Kind) (X : ℕ) (r : Report) → LeadsToDocument kind X (json_report kind X) r → IsOther r
-other_json kind X r leads = other_said (plain_json kind X) leads.said
+pub json_said : (kind : Kind) (X : ℕ) → Said (LeadsToDocument kind X (json_report kind X)) (json_report kind X) (IsTrue (is_bound X))
+json_said kind X = record { plain = plain_json kind X; said = λ r leads. leads.said }
 
-pub other_text_document : (X : ℕ) (t : Entries) (r : Report) → LeadsToTextDocument X t r → IsOther r
-other_text_document X t r leads = other_said (plain_text_document X t) leads.document.said
+pub text_document_said : (X : ℕ) (t : Entries) → Said (LeadsToTextDocument X t) (text_document X t) (IsTrue (is_bound X))
+text_document_said X t = record { plain = plain_text_document X t; said = λ r leads. leads.document.said }

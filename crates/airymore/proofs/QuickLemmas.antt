@@ -1,48 +1,20 @@
 -- A table that is printed without a look at its pivots has the headline.
-use Rattle.std.proofs.Common.{◌≡◌, ◌≢◌, ◌⊎◌, inl, inr, ℕ, ◌<◌, refl, sym, ap, ◌∙◌, subst, arith, length, zero, suc, map, List, [], ◌∷◌, get_or}
-use Rattle.std.specs.Prelude.{Bool, true, false, cond, Option, Some, None}
-use Rattle.airy_math.specs.Rational.{ℚ}
-use Rattle.airy_math.specs.Tensors.{Tensors}
-use Rattle.airy_math.specs.Planned.{planned}
-use Rattle.airy_math.specs.Keys.{Key}
-use Rattle.airy_math.specs.Ranks.{PlanLaw, key_at}
-use Rattle.airy_index.specs.Text.{key_text}
-use Rattle.airy_math.specs.Relations.{Close}
-use Rattle.airy_math.specs.Jobs.{Structure, Text, Lettered, planned_tensors}
-use Rattle.airy_math.specs.OwnTensors.{OwnTensorsLaw}
-use Rattle.airy_io.specs.Causes.{Taking}
-use Rattle.airy_relations.specs.declared.verdict.Verdict.{Verdict}
-use Rattle.airy_relations.specs.declared.verdict.Verdict.TheVariants.{Closed, Differs}
+use Rattle.std.proofs.Common.{◌≡◌, ◌≢◌, ◌⊎◌, inl, inr, ℕ, ◌<◌, refl, sym, ap, ◌∙◌, subst, arith, length, zero, suc, map, List, [], ◌∷◌, get_or, Bool, true, false, cond, Option, Some, None}
+use Rattle.run_reports.proofs.Names.{ℚ, Tensors, planned, Key, PlanLaw, key_at, key_text, Close, Structure, Lettered, planned_tensors, OwnTensorsLaw, Taking, Verdict, Closed, Differs, verdict, Entries, looked_up, AreSound, Limit, Within, PassesBound, PassesCells, PassesNeeds, limit, limit_of, Planning, tensors_of, PlanCause, Outcome, outcomes, has_value, first_without, full_table, next_rank, JobSolutionLaw, JobUniquenessLaw, AllPivots, EveryPivotLaw, HasValues, Report, Ends, EndsOrWants, out_of_memory, EndsBy, cause_report, over_at, plan_report, rows_text, table_text, closed, of_relations, relations_report, text_structure, has_letter, whole_table, AreClosed, Headline, is_bound}
+use Rattle.airy_math.specs.Jobs.{Text}
 use Rattle.airy_relations.specs.declared.verdict.Verdict.TheVariants as relations
-use Rattle.airy_relations.specs.Verdicts.{verdict}
-use Rattle.sparse_tensor.specs.Entries.{Entries, looked_up}
-use Rattle.sparse_tensor.specs.Grades.{AreSound}
-use Rattle.amp_plan.specs.Limits.{Limit, Within, PassesBound, PassesCells, PassesNeeds, limit, limit_of, Tells}
-use Rattle.amp_plan.specs.Plans.{Planning, tensors_of}
+use Rattle.amp_plan.specs.Limits.{Tells}
 use Rattle.amp_plan.specs.Plans as plans
-use Rattle.amp_plan.specs.declared.PlanCause.{PlanCause}
-use Rattle.amp_terms.specs.declared.Outcome.{Outcome}
 use Rattle.amp_terms.specs.declared.Outcome.TheVariants.{Value, Over, Blocked}
-use Rattle.amp_terms.specs.Outcomes.{outcomes, has_value}
-use Rattle.amp_terms.specs.Tables.{first_without, full_table, next_rank}
 use Rattle.series_law.specs.First.{HaveValues}
-use Rattle.series_law.specs.Jobs.{JobSolutionLaw, JobUniquenessLaw}
-use Rattle.series_law.specs.Pivots.{AllPivots}
 use Rattle.amp_terms.proofs.OutcomeLemmas.{length-outcomes}
 use Rattle.airy_exists.specs.Agreement.{answer_at}
 use Rattle.airy_exists.specs.declared.ends.Agreed.TheVariants.{Solution, NotValue}
-use Rattle.airy_exists.specs.Existence.{EveryPivotLaw, HasValues}
-use Rattle.run_reports.specs.Report.{Report, Ends, EndsOrWants, out_of_memory}
-use Rattle.run_reports.specs.Ends.{EndsBy}
-use Rattle.run_reports.specs.Tables.{cause_report, over_at, plan_report, rows_text, table_text}
-use Rattle.run_reports.specs.Relations.{closed, of_relations, relations_report}
-use Rattle.run_reports.specs.Structures.{text_structure, has_letter, whole_table, AreClosed}
-use Rattle.run_reports.specs.Headline.{Headline}
 use Rattle.run_reports.proofs.HeadlineLemmas.{headline_by}
 use Rattle.run_reports.proofs.ReportLemmas.{told_cause}
 use Rattle.run_reports.proofs.StatusLemmas.{some_bound}
-use Rattle.run_reports.proofs.TextLemmas.{text_sound, own_of}
-use Rattle.command_words.specs.Bounds.{is_bound}
+use Rattle.run_reports.proofs.StructureLemmas.{text_letter, text_planned}
+use Rattle.run_reports.proofs.TextLemmas.{text_sound, own_of, fails_by}
 use Rattle.airymore.specs.Quick.{plan_quick, quick_cells, quick_report, quick_table, valued_report, LeadsToQuick}
 
 -- ---- what the plan leads to
@@ -106,28 +78,11 @@ module _ (t : Entries) (X : ℕ) where
   abbrev s : Structure
   s = text_structure t
 
-  -- the job's tensors are the entries', and its letter is theirs
-  planned_is : planned_tensors s X ≡ looked_up t
-  unfolding text_structure planned_tensors
-  planned_is = by t.letter
-    where
-      by : (b : Bool) → planned_tensors (cond b (Lettered (looked_up t)) (Text (looked_up t))) X ≡ looked_up t
-      by true = refl
-      by false = refl
-
-  letter_is : has_letter s ≡ t.letter
-  unfolding text_structure has_letter
-  letter_is = by t.letter
-    where
-      by : (b : Bool) → has_letter (cond b (Lettered (looked_up t)) (Text (looked_up t))) ≡ b
-      by true = refl
-      by false = refl
-
   lines_are : whole_table s X ≡ rows_text t.letter (looked_up t).shape (planned (looked_up t) X) (full_table (looked_up t) X)
   unfolding whole_table
   lines_are =
-      ap (λ b. rows_text b (planned_tensors s X).shape (planned (planned_tensors s X) X) (full_table (planned_tensors s X) X)) letter_is
-      ∙ ap (λ (T : Tensors). rows_text t.letter T.shape (planned T X) (full_table T X)) planned_is
+      ap (λ b. rows_text b (planned_tensors s X).shape (planned (planned_tensors s X) X) (full_table (planned_tensors s X) X)) (text_letter t)
+      ∙ ap (λ (T : Tensors). rows_text t.letter T.shape (planned T X) (full_table T X)) (text_planned t X)
 
   there : first_without (full_table (looked_up t) X) ≡ None → (r : ℕ) → r < length (planned (looked_up t) X) → (w : ℚ) × (get_or (outcomes (looked_up t) X) r Over ≡ Value w)
   unfolding full_table
@@ -145,10 +100,10 @@ module _ (t : Entries) (X : ℕ) where
       (headline_by laws.unique laws.planned s X (text_sound t sound) (some_bound X bounded) planned_there (laws.solution s X (text_sound t sound) (some_bound X bounded) _ pivots))
     where
       planned_there : (r : ℕ) → r < length (planned (planned_tensors s X) X) → (w : ℚ) × (get_or (outcomes (planned_tensors s X) X) r Over ≡ Value w)
-      planned_there = subst (λ (T : Tensors). (r : ℕ) → r < length (planned T X) → (w : ℚ) × (get_or (outcomes T X) r Over ≡ Value w)) (sym planned_is) (there none)
+      planned_there = subst (λ (T : Tensors). (r : ℕ) → r < length (planned T X) → (w : ℚ) × (get_or (outcomes T X) r Over ≡ Value w)) (sym (text_planned t X)) (there none)
 
       pivots : AllPivots (planned_tensors s X) X (outcomes (planned_tensors s X) X)
-      pivots = subst (λ (T : Tensors). AllPivots T X (outcomes T X)) (sym planned_is) (laws.pivots (looked_up t) sound.symmetric sound.graded close X (values none))
+      pivots = subst (λ (T : Tensors). AllPivots T X (outcomes T X)) (sym (text_planned t X)) (laws.pivots (looked_up t) sound.symmetric sound.graded close X (values none))
 
   -- ---- what a table leads to
 
@@ -211,15 +166,11 @@ module _ (t : Entries) (X : ℕ) where
 
     -- and where they fail first
     pub quick_fails : OwnTensorsLaw → (v : Verdict) → v ≡ verdict (looked_up t) t.dim → (v ≡ Closed → ⊥) → Ends (relations_report v closed) w w' status → EndsBy (LeadsToQuick X t) w w' status
-    unfolding relations_report of_relations quick_report
-    quick_fails own Closed found fails e = absurd (fails refl)
-    quick_fails own (Differs rel place left right) found fails e = (
-      relations_report (Differs rel place left right) closed,
-      record { said = inl (ap (λ v. relations_report v (quick_table X t)) found); headline = λ h. absurd (omega arith); own = own_of own X t; accepted = λ h. absurd (omega arith); never = λ h. omega (arith, h) },
-      e,
-    )
-    quick_fails own (relations.Over rel place) found fails e = (
-      relations_report (relations.Over rel place) closed,
-      record { said = inl (ap (λ v. relations_report v (quick_table X t)) found); headline = λ h. absurd (omega arith); own = own_of own X t; accepted = λ h. absurd (omega arith); never = λ h. omega (arith, h) },
-      e,
-    )
+    unfolding quick_report
+    quick_fails own v found fails e = fails_by t (quick_table X t) w w' status v found fails (λ r said low high. record {
+      said = inl said;
+      headline = λ h. absurd (omega (arith, h, low));
+      own = own_of own X t;
+      accepted = λ h. absurd (omega (arith, h, low));
+      never = λ h. omega (arith, h, high);
+    }) e

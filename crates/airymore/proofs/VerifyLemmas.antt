@@ -1,31 +1,15 @@
 -- What `verify` says of the source and of the solutions.
-use Rattle.std.proofs.Common.{◌≡◌, ◌≢◌, ◌⊎◌, inl, inr, ℕ, zero, suc, ◌<◌, ◌≤◌, refl, sym, ap, ap₂, ◌∙◌, subst, arith, length, List, [], ◌∷◌}
-use Rattle.std.specs.Prelude.{Option, Some, None, Bool, true, false, cond, nat_lt, nat_le, ◌&&◌, option_and_then, is_some, option_map, Result, Ok, Err}
+use Rattle.std.proofs.Common.{◌≡◌, ◌≢◌, ◌⊎◌, inl, inr, ℕ, zero, suc, ◌<◌, ◌≤◌, refl, sym, ap, ap₂, ◌∙◌, subst, arith, length, List, [], ◌∷◌, Option, Some, None, Bool, true, false, cond, nat_lt, nat_le, ◌&&◌, option_and_then, is_some, option_map, Result, Ok, Err}
+use Rattle.run_reports.proofs.Names.{Giving, Taking, Rose, BelowDimLaw, Key, letter_of, Solves, planned, PlanLaw, ℚ, Tensors, SameEntries, Structure, IsSound, IsSolutionOf, Lettered, letter_value, planned_tensors, Family, Entries, looked_up, AreSound, Planning, tensors_of, keys_of, Limit, Within, PassesBound, PassesCells, PassesNeeds, limit, JobUniquenessLaw, series_with, Report, Ends, out_of_memory, EndsBy, Run, structure_of, text_structure, cause_report, read_fault, text_too_long, AnswersBy}
 use Rattle.std.specs.Io.KnownBytes.{Consumes, IsAtEnd}
-use Rattle.airy_io.specs.Causes.{Giving, Taking, Rose}
-use Rattle.airy_math.specs.BelowDim.{BelowDimLaw}
-use Rattle.airy_math.specs.Keys.{Key}
-use Rattle.airy_math.specs.Cuts.{letter_of}
-use Rattle.airy_math.specs.Solutions.{Solves}
-use Rattle.airy_math.specs.Planned.{planned}
-use Rattle.airy_math.specs.Ranks.{PlanLaw}
-use Rattle.airy_math.specs.Rational.{ℚ}
-use Rattle.airy_math.specs.Tensors.{Tensors, SameEntries}
-use Rattle.airy_math.specs.Jobs.{Structure, IsSound, IsSolutionOf, Text, Lettered, letter_value, planned_tensors}
-use Rattle.airy_math.specs.declared.Family.{Family}
+use Rattle.airy_math.specs.Jobs.{Text}
 use Rattle.airy_math.specs.declared.Family.TheVariants as family
 use Rattle.airy_math.proofs.BelowDimLaw.{same_back}
-use Rattle.sparse_tensor.specs.Entries.{Entries, looked_up}
-use Rattle.sparse_tensor.specs.Grades.{AreSound}
 use Rattle.serde_json.specs.Data.{Data, Items, no_items, item}
-use Rattle.amp_plan.specs.Plans.{Planning, tensors_of, keys_of}
-use Rattle.amp_plan.specs.Limits.{Limit, Within, PassesBound, PassesCells, PassesNeeds, limit}
 use Rattle.amp_plan.specs.declared.cause.PlanCause.{PlanCause}
 use Rattle.amp_plan.specs.declared.cause.PlanCause.TheVariants as plan_cause
-use Rattle.series_law.specs.Jobs.{JobUniquenessLaw}
-use Rattle.series_law.specs.Pivots.{series_with}
 use Rattle.airy_json.specs.Reading.{Kind, named, text, Form, IsPlanOf, AreOfKind, kind_tensors, kind_of, making_over, cell_value, with_value, first_bad, cell_values, Answer, Long, NoJson, BadForm, BadKind, BadBound, Unmade, Unplanned, BadCell, Gives, cells_answer, plan_answer, made_answer, bound_answer, kind_answer, form_of, form_answer, data_answer, json_of, answer_of}
-use Rattle.airy_json.specs.Given.{IsGiven, Passes, Refuses, ReadsDocument, HasCause}
+use Rattle.airy_json.specs.Given.{IsGiven, IsWhole, Passes, Refuses, ReadsDocument, HasCause}
 use Rattle.airy_json.specs.declared.reading.Given.{Given}
 use Rattle.airy_json.specs.declared.refusals.JsonErr.{JsonErr}
 use Rattle.airy_json.specs.declared.refusals.JsonErr.TheVariants as json
@@ -33,16 +17,9 @@ use Rattle.airy_json.specs.declared.verify_ends.VerifyEnd.{VerifyEnd}
 use Rattle.airy_json.specs.declared.verify_ends.VerifyEnd.TheVariants.{Solution, Over, Differs}
 use Rattle.airy_json.specs.Verifying.{as_table, verified}
 use Rattle.airy_json.specs.Verified.{AreNoSolution, JobVerified, JobVerifiedLaw, SameVerifiedLaw, job_series, values_series}
-use Rattle.run_reports.specs.Report.{Report, Ends, out_of_memory}
-use Rattle.run_reports.specs.Ends.{EndsBy}
-use Rattle.run_reports.specs.Runs.{Run}
-use Rattle.run_reports.specs.StructureTables.{structure_of}
-use Rattle.run_reports.specs.Structures.{text_structure}
-use Rattle.run_reports.specs.Tables.{cause_report}
-use Rattle.run_reports.specs.Texts.{read_fault, text_too_long}
-use Rattle.run_reports.specs.Promises.{AnswersBy}
 use Rattle.run_reports.proofs.AnswerLemmas.{SourceAnswers, answers_from_report}
 use Rattle.run_reports.proofs.CauseLemmas.{Stands, is_meant, at_fault, is_wanting, Tells}
+use Rattle.run_reports.proofs.StructureLemmas.{entries_self, text_planned}
 use Rattle.run_reports.proofs.SourceLemmas.{source_or, told_source, ended, no_longer}
 use Rattle.run_reports.proofs.StatusLemmas.{IsPlain, IsOther, plain_other, other_wanting, status_of}
 use Rattle.airymore.specs.Documents.{structure_of_kind, ValuesHeadline}
@@ -204,22 +181,15 @@ unfolding AreOfKind kind_tensors
 same_entries (named family.Wk) X u h = h.entries
 same_entries (named family.Bgw) X u h = h.entries
 same_entries (named family.Wp) X u h = h.entries
-same_entries (text t) X u h = subst (λ (x : Entries). SameEntries (looked_up u) (looked_up x)) h (same_self (looked_up u))
-  where
-    same_self : (T : Tensors) → SameEntries T T
-    same_self T = record { dim = refl; shape = refl; A = λ i j k p q r. refl; B = λ i j k p q r. refl; C = λ i j k p q r. refl; D = λ i p. refl }
+same_entries (text t) X u h = subst (λ (x : Entries). SameEntries (looked_up u) (looked_up x)) h (entries_self (looked_up u))
 
 -- the kind's tensors are those of its structure's plan
 kind_planned : (kind : Kind) (X : ℕ) → kind_tensors kind X ≡ planned_tensors (structure_of_kind kind) X
-unfolding kind_tensors structure_of_kind structure_of text_structure planned_tensors
+unfolding kind_tensors structure_of_kind structure_of planned_tensors
 kind_planned (named family.Wk) X = refl
 kind_planned (named family.Bgw) X = refl
 kind_planned (named family.Wp) X = refl
-kind_planned (text t) X = by t.letter
-  where
-    by : (b : Bool) → looked_up t ≡ planned_tensors (cond b (Lettered (looked_up t)) (Text (looked_up t))) X
-    by true = refl
-    by false = refl
+kind_planned (text t) X = sym (text_planned t X)
 
 -- ---- what an end says
 
@@ -317,9 +287,6 @@ module _ (laws : VerifyLaws) (p : Planning) (vs : List ℚ) (bytes : List ℕ) (
 
 -- ---- what the command ends with
 
-refused_leads : (answer a : Answer) (r : Report) → answer ≡ a → r ≡ answer_report a → r.status ≢ 0 → r.status ≢ 7 → LeadsToVerified answer r
-refused_leads answer a r is same not_0 not_7 = record { said = same ∙ ap answer_report (sym is); solved = λ h. absurd (not_0 h); unsolved = λ h. absurd (not_7 h) }
-
 -- a document that gives values
 pub given_ends : (old new : Giving) (w w' : Taking) (status : ℕ) (laws : VerifyLaws) (given : Given) → AreSound given.plan.tensors
     → ReadsDocument old new (Ok given) → HasCause {T = Given} old.faults new.faults (Ok given)
@@ -330,28 +297,25 @@ given_ends old new w w' status laws given sound reads cause e = (
   e,
 )
 
--- and one that gives none
+-- and one that gives none: its answer is refused
+refused_ends : (old new : Giving) (w w' : Taking) (status : ℕ) (bytes : List ℕ) (a : Answer) {why : JsonErr} → new.faults ≡ old.faults → Consumes old.left new.left bytes
+    → IsWhole bytes new.left (Err why) → answer_of bytes ≡ a → (answer_report a).status ≢ 0 → (answer_report a).status ≢ 7 → Ends (answer_report a) w w' status → EndsOfDocument old new w w' status
+refused_ends old new w w' status bytes a kept consumed tells said not_0 not_7 e =
+    (answer_report a, whole kept bytes consumed tells.ended tells.short (record { said = ap answer_report (sym said); solved = λ h. absurd (not_0 h); unsolved = λ h. absurd (not_7 h) }), e)
+
 pub refusal_ends : (old new : Giving) (w w' : Taking) (status : ℕ) (why : JsonErr) → ReadsDocument old new (Err why) → HasCause {T = Given} old.faults new.faults (Err why)
     → Ends (error_report why) w w' status → EndsOfDocument old new w w' status
 unfolding error_report answer_report limit_report cause_report
 refusal_ends old new w w' status json.ReadFault reads cause e = (read_fault, failed (cause.failed refl) refl, e)
 refusal_ends old new w w' status json.TooLong reads cause e = (text_too_long, long (cause.kept (λ h. cc)) reads.bytes reads.consumed reads.tells.0 refl, e)
-refusal_ends old new w w' status json.NotJson reads cause e =
-    (error_report json.NotJson, whole (cause.kept (λ h. cc)) reads.bytes reads.consumed reads.tells.ended reads.tells.short (refused_leads (answer_of reads.bytes) NoJson _ reads.tells.said refl (λ h. omega arith) (λ h. omega arith)), e)
-refusal_ends old new w w' status json.Form reads cause e =
-    (error_report json.Form, whole (cause.kept (λ h. cc)) reads.bytes reads.consumed reads.tells.ended reads.tells.short (refused_leads (answer_of reads.bytes) BadForm _ reads.tells.said refl (λ h. omega arith) (λ h. omega arith)), e)
-refusal_ends old new w w' status json.Kind reads cause e =
-    (error_report json.Kind, whole (cause.kept (λ h. cc)) reads.bytes reads.consumed reads.tells.ended reads.tells.short (refused_leads (answer_of reads.bytes) BadKind _ reads.tells.said refl (λ h. omega arith) (λ h. omega arith)), e)
-refusal_ends old new w w' status (json.Bound got) reads cause e =
-    (error_report (json.Bound got), whole (cause.kept (λ h. cc)) reads.bytes reads.consumed reads.tells.ended reads.tells.short (refused_leads (answer_of reads.bytes) (BadBound got) _ reads.tells.said refl (λ h. omega arith) (λ h. omega arith)), e)
-refusal_ends old new w w' status (json.Make k) reads cause e =
-    (error_report (json.Make k), whole (cause.kept (λ h. cc)) reads.bytes reads.consumed reads.tells.ended reads.tells.short (refused_leads (answer_of reads.bytes) (Unmade k) _ reads.tells.said refl (λ h. omega arith) (λ h. omega arith)), e)
-refusal_ends old new w w' status (json.Plan (plan_cause.Bound got)) reads why e = absurd reads.tells.said
-refusal_ends old new w w' status (json.Plan (plan_cause.Cells level)) reads why e =
-    (cause_report (plan_cause.Cells level), whole (why.kept (λ h. cc)) reads.bytes reads.consumed reads.tells.ended reads.tells.short (refused_leads (answer_of reads.bytes) (Unplanned (PassesCells level)) _ reads.tells.said refl (λ h. omega arith) (λ h. omega arith)), e)
-refusal_ends old new w w' status (json.Plan (plan_cause.Edges key)) reads why e =
-    (cause_report (plan_cause.Edges key), whole (why.kept (λ h. cc)) reads.bytes reads.consumed reads.tells.ended reads.tells.short (refused_leads (answer_of reads.bytes) (Unplanned (PassesNeeds key)) _ reads.tells.said refl (λ h. omega arith) (λ h. omega arith)), e)
-refusal_ends old new w w' status (json.Plan plan_cause.NoMemory) reads why e = absurd reads.tells.said
-refusal_ends old new w w' status (json.Cell place) reads cause e =
-    (error_report (json.Cell place), whole (cause.kept (λ h. cc)) reads.bytes reads.consumed reads.tells.ended reads.tells.short (refused_leads (answer_of reads.bytes) (BadCell place) _ reads.tells.said refl (λ h. omega arith) (λ h. omega arith)), e)
+refusal_ends old new w w' status json.NotJson reads cause e = refused_ends old new w w' status reads.bytes NoJson (cause.kept (λ h. cc)) reads.consumed reads.tells reads.tells.said (λ h. omega arith) (λ h. omega arith) e
+refusal_ends old new w w' status json.Form reads cause e = refused_ends old new w w' status reads.bytes BadForm (cause.kept (λ h. cc)) reads.consumed reads.tells reads.tells.said (λ h. omega arith) (λ h. omega arith) e
+refusal_ends old new w w' status json.Kind reads cause e = refused_ends old new w w' status reads.bytes BadKind (cause.kept (λ h. cc)) reads.consumed reads.tells reads.tells.said (λ h. omega arith) (λ h. omega arith) e
+refusal_ends old new w w' status (json.Bound got) reads cause e = refused_ends old new w w' status reads.bytes (BadBound got) (cause.kept (λ h. cc)) reads.consumed reads.tells reads.tells.said (λ h. omega arith) (λ h. omega arith) e
+refusal_ends old new w w' status (json.Make k) reads cause e = refused_ends old new w w' status reads.bytes (Unmade k) (cause.kept (λ h. cc)) reads.consumed reads.tells reads.tells.said (λ h. omega arith) (λ h. omega arith) e
+refusal_ends old new w w' status (json.Plan (plan_cause.Bound got)) reads cause e = absurd reads.tells.said
+refusal_ends old new w w' status (json.Plan (plan_cause.Cells level)) reads cause e = refused_ends old new w w' status reads.bytes (Unplanned (PassesCells level)) (cause.kept (λ h. cc)) reads.consumed reads.tells reads.tells.said (λ h. omega arith) (λ h. omega arith) e
+refusal_ends old new w w' status (json.Plan (plan_cause.Edges key)) reads cause e = refused_ends old new w w' status reads.bytes (Unplanned (PassesNeeds key)) (cause.kept (λ h. cc)) reads.consumed reads.tells reads.tells.said (λ h. omega arith) (λ h. omega arith) e
+refusal_ends old new w w' status (json.Plan plan_cause.NoMemory) reads cause e = absurd reads.tells.said
+refusal_ends old new w w' status (json.Cell place) reads cause e = refused_ends old new w w' status reads.bytes (BadCell place) (cause.kept (λ h. cc)) reads.consumed reads.tells reads.tells.said (λ h. omega arith) (λ h. omega arith) e
 refusal_ends old new w w' status json.NoMemory reads cause e = (out_of_memory, wanting (cause.kept (λ h. cc)) refl, e)

@@ -16,8 +16,7 @@ use Rattle.airy_math.specs.Tensors.{Tensors}
 use Rattle.airy_index.specs.Text.{key_text}
 use Rattle.frac128.specs.Fraction.{fraction_text}
 use Rattle.airy_relations.specs.Verdicts.{verdict}
-use Rattle.airy_curve.specs.Curve.{curve, curve_shape, number_of, of_list}
-use Rattle.airy_curve.specs.Cuts.{whole_curve}
+use Rattle.airy_math.specs.Curves.{curve, curve_shape, number_of, of_list, whole_curve}
 use Rattle.airy_curve.specs.Steps.{curve_refusal}
 use Rattle.airy_curve.specs.declared.making.CurveErr.{CurveErr}
 use Rattle.airy_curve.specs.declared.making.CurveErr.TheVariants as error

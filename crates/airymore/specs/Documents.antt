@@ -40,7 +40,8 @@ table_document kind T X = document_text kind X (planned T X) (values_in (full_ta
 
 -- what `json` writes and answers of a kind's structure: what `table` does, with the document in the place of the lines
 unfoldable pub json_report : Kind → ℕ → Report
-json_report kind X = in_place (table_document (kind_text kind) (planned_tensors (structure_of_kind kind) X) X) (table_report (structure_of_kind kind) X)
+json_report kind X =
+    in_place (table_document (kind_text kind) (planned_tensors (structure_of_kind kind) X) X) (table_report (structure_of_kind kind) X)
 
 -- ---- what values say
 
@@ -49,10 +50,12 @@ pub record ValuesHeadline (s : Structure) (X : ℕ) (values : List ℚ) : Type 0
   pub whole : length values ≡ length (planned (planned_tensors s X) X)
   -- The value at a rank, times the letter's power, is the amplitude of that rank's key in every solution.
   pub shown : (r : ℕ) → r < length values
-      → let key = key_at (planned (planned_tensors s X) X) r in ShowsNumber s X X key (get_or values r 0ℚ) (cond (has_letter s) (letter_of (planned_tensors s X).shape key) 0)
-  -- Every solution up to X, at every dim m from the table's on and with every fraction v in the place of the letter, has these numbers, and 0
-  -- where the shape does not cover the key or an index is beyond the table's.
-  pub unique : (m : ℕ) (v : ℚ) (f : Series) → IsSolutionOf s X m v f → Shown X (letter_value s v) (planned_tensors s X) (tensors_at s m v) (as_table values) f
+      → let key = key_at (planned (planned_tensors s X) X) r in
+      ShowsNumber s X X key (get_or values r 0ℚ) (cond (has_letter s) (letter_of (planned_tensors s X).shape key) 0)
+  -- Every solution up to X, at every dim m from the table's on and with every fraction v in the place of the letter, has these numbers,
+  -- and 0 where the shape does not cover the key or an index is beyond the table's.
+  pub unique : (m : ℕ) (v : ℚ) (f : Series) → IsSolutionOf s X m v f
+      → Shown X (letter_value s v) (planned_tensors s X) (tensors_at s m v) (as_table values) f
   -- And they are such a solution, at every dim and fraction: the series whose amplitude at each key is its value times the letter's power.
   pub solution : (m : ℕ) (v : ℚ) → (planned_tensors s X).dim ≤ m → IsSolutionOf s X m v (job_series s X v values)
 
@@ -89,4 +92,5 @@ unfoldable pub stored_document : List ℕ → Entries → ℕ → Report
 stored_document kind t X = in_place (table_document kind (looked_up t) X) (stored_report t X)
 
 unfoldable pub plan_document : List ℕ → Planning → Report
-plan_document kind p = in_place (table_document kind (plans.tensors_of p) p.bound) (cells_report p.tensors.letter (plans.tensors_of p) p.bound)
+plan_document kind p =
+    in_place (table_document kind (plans.tensors_of p) p.bound) (cells_report p.tensors.letter (plans.tensors_of p) p.bound)

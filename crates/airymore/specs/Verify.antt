@@ -81,8 +81,8 @@ pub record GivesNoSolution (answer : Answer) (bytes : List ℕ) : Type 0 where
   pub given : ℚ
   pub named : bytes ≡ (verified_report (Differs key pivot sum given)).bytes
   pub found : verified (kind_tensors kind bound) bound values ≡ Differs key pivot sum given
-  -- the values' series solves the structure's constraints at no dim, and with no fraction but 0 in the place of the letter; nor with 0 where the
-  -- key has no letter
+  -- the values' series solves the structure's constraints at no dim, and with no fraction but 0 in the place of the letter; nor with 0 where
+  -- the key has no letter
   pub nowhere : AreNoSolution (structure_of_kind kind) bound (letter_of (kind_tensors kind bound).shape key) values
   -- nor does it solve the plan's own tensors
   pub planned_too : Solves (kind_tensors kind bound) bound (values_series (kind_tensors kind bound) bound values) → ⊥
@@ -99,7 +99,8 @@ pub data LeadsFromDocument (old new : Giving) (report : Report) : Type 0 where
   failed : Rose old.faults new.faults → report ≡ read_fault → LeadsFromDocument old new report
   wanting : new.faults ≡ old.faults → report ≡ out_of_memory → LeadsFromDocument old new report
   -- more than 16,777,216 bytes came, and reading stopped at the first of them
-  long : new.faults ≡ old.faults → (bytes : List ℕ) → Consumes old.left new.left bytes → length bytes ≡ 16777217 → report ≡ text_too_long → LeadsFromDocument old new report
+  long : new.faults ≡ old.faults → (bytes : List ℕ) → Consumes old.left new.left bytes → length bytes ≡ 16777217 → report ≡ text_too_long
+      → LeadsFromDocument old new report
   -- the source was read to its end
   whole : new.faults ≡ old.faults → (bytes : List ℕ) → Consumes old.left new.left bytes → IsAtEnd new.left → length bytes ≤ 16777216
       → LeadsToVerified (answer_of bytes) report → LeadsFromDocument old new report

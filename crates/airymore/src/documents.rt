@@ -20,14 +20,13 @@ use command_words::is_bound;
 use constraint_check::{CheckEnd, check_crew};
 use fill_crew::{Gate, fill_all};
 use run_reports::{
-    refuse_bound, refuse_key, refuse_making, refuse_memory, refuse_orders, refuse_pivot,
-    refuse_plan, refuse_text, say, say_verdict, tensors_of,
+    read_bounded, refuse_bound, refuse_input, refuse_key, refuse_making, refuse_memory,
+    refuse_orders, refuse_pivot, refuse_plan, say, say_verdict, tensors_of,
 };
 use series_law::{job_checked, job_uniqueness, same_tables, widened_relations};
 use sparse_tensor::Tensors;
 use std::alloc::Global;
 use std::thread::Threads;
-use tensor_text::read_tensors;
 
 /// The name of a family, as a document has it.
 #[tactic(auto, unfolding(airy_json::specs::Reading::kind_text))]
@@ -112,12 +111,9 @@ pub(crate) fn document_of_text<R: Threads + Sync, S: Source, W: Sink, G: Gate + 
     ensures { EndsWithBound bound (LeadsToTextDocument bound)
         (S.state src.old) (S.state src.new) (W.state out.old) (W.state out.new) result }
 {
-    if !is_bound(bound) {
-        return refuse_bound(out, bound);
-    }
-    match read_tensors(alloc, src) {
+    match read_bounded(alloc, bound, src) {
         Ok(tensors) => write_closed(rt, alloc, tensors, bound as u8, workers, gate, out),
-        Err(refusal) => refuse_text(out, refusal),
+        Err(refusal) => refuse_input(out, refusal),
     }
 }
 

@@ -14,16 +14,14 @@ use airy_math::{own_tensors, planned_once};
 use airy_relations::{Verdict, check};
 use amp_plan::Plan;
 use amp_terms::Table;
-use command_words::is_bound;
 use fill_crew::{Gate, fill_all};
 use run_reports::{
-    print_table, refuse_bound, refuse_key, refuse_memory, refuse_plan, refuse_text, say_verdict,
+    print_table, read_bounded, refuse_input, refuse_key, refuse_memory, refuse_plan, say_verdict,
 };
 use series_law::{job_solution, job_uniqueness, widened_relations};
 use sparse_tensor::Tensors;
 use std::alloc::Global;
 use std::thread::Threads;
-use tensor_text::read_tensors;
 
 /// Does `quick X WORKERS`: the table of a text whose relations hold. That it is a solution needs no look at any further pivot.
 pub(crate) fn quick<R: Threads + Sync, S: Source, W: Sink, G: Gate + Sync>(
@@ -38,12 +36,9 @@ pub(crate) fn quick<R: Threads + Sync, S: Source, W: Sink, G: Gate + Sync>(
     requires { workers ≤ 16 }
     ensures { EndsWithBound bound (LeadsToQuick bound) (S.state src.old) (S.state src.new) (W.state out.old) (W.state out.new) result }
 {
-    if !is_bound(bound) {
-        return refuse_bound(out, bound);
-    }
-    match read_tensors(alloc, src) {
+    match read_bounded(alloc, bound, src) {
         Ok(tensors) => print_closed(rt, alloc, tensors, bound as u8, workers, gate, out),
-        Err(refusal) => refuse_text(out, refusal),
+        Err(refusal) => refuse_input(out, refusal),
     }
 }
 

@@ -2,7 +2,6 @@ use crate::top::run_more;
 use airy_io::{MemSink, MemSource, Source, SteadySource};
 use fill_crew::OpenGate;
 use std::alloc::{AllocError, Global};
-use std::process::Abort;
 use std::test::Fail;
 use std::thread::Threads;
 
@@ -43,6 +42,17 @@ impl Told {
     }
 }
 
+/// The status of a run.
+fn status_of<R: Threads + Sync, S: Source>(
+    rt: &R,
+    alloc: Global,
+    words: &[String],
+    source: &mut S,
+    sink: &mut MemSink,
+) -> u8 {
+    run_more(rt, alloc, words, source, sink, &OpenGate)
+}
+
 /// Runs the words of a line.
 fn run_words<R: Threads + Sync, S: Source>(
     rt: &R,
@@ -52,7 +62,7 @@ fn run_words<R: Threads + Sync, S: Source>(
     mut sink: MemSink,
 ) -> Result<Told, AllocError> {
     let words = words_of(alloc, line)?;
-    let status = run_more(rt, alloc, &words, source, &mut sink, &OpenGate);
+    let status = status_of(rt, alloc, &words, source, &mut sink);
     Ok(Told { status, sink })
 }
 
@@ -68,21 +78,37 @@ fn run_over<R: Threads + Sync>(
         bytes: Vec::from_slice(alloc, text)?,
         at: 0,
     };
-    let sink = sink_of(alloc, 1 << 16, fail_at)?;
-    run_words(rt, alloc, line, &mut source, sink)
+    run_words(
+        rt,
+        alloc,
+        line,
+        &mut source,
+        sink_of(alloc, 1 << 16, fail_at)?,
+    )
 }
 
-/// Runs each case, and asserts that it answers the status and writes the bytes.
-pub(crate) fn assert_told<R: Threads + Sync + Abort>(
+/// Whether each case answers its status and writes its bytes, into a sink that fails at some calls.
+fn are_cut<R: Threads + Sync>(
     rt: &R,
     alloc: Global,
     cases: &[Case],
-) -> Result<(), Fail> {
+    fail_at: &[u32],
+) -> Result<bool, AllocError> {
     for (line, text, status, bytes) in cases.iter() {
-        let told = run_over(rt, alloc, line, text, &[])?;
-        assert!(rt; told.is(*status, bytes), "{}", line);
+        if !run_over(rt, alloc, line, text, fail_at)?.is(*status, bytes) {
+            return Ok(false);
+        }
     }
-    Ok(())
+    Ok(true)
+}
+
+/// Whether each case does, where no call fails.
+pub(crate) fn are_told<R: Threads + Sync>(
+    rt: &R,
+    alloc: Global,
+    cases: &[Case],
+) -> Result<bool, AllocError> {
+    are_cut(rt, alloc, cases, &[])
 }
 
 /// A text whose entries of A aren't those of operators that close.
@@ -139,7 +165,8 @@ const BRACKETS: [Case; 6] = [
 
 #[test]
 fn brackets_of_texts(rt: HostRuntime) -> Result<(), Fail> {
-    assert_told(&rt, rt.alloc(), &BRACKETS)
+    assert!(rt; are_told(&rt, rt.alloc(), &BRACKETS)?);
+    Ok(())
 }
 
 /// A text whose relations hold. With the pivot 1 a step of 0,4 [0 0 0 1] leaves the range, three times 2^126; the amplitude is 0.
@@ -162,7 +189,8 @@ const QUICK: [Case; 5] = [
 
 #[test]
 fn quick_tables_of_texts(rt: HostRuntime) -> Result<(), Fail> {
-    assert_told(&rt, rt.alloc(), &QUICK)
+    assert!(rt; are_told(&rt, rt.alloc(), &QUICK)?);
+    Ok(())
 }
 
 /// Words, bounds and texts that are refused. A bound comes before the text.
@@ -184,43 +212,56 @@ const REFUSED: [Case; 8] = [
 
 #[test]
 fn refused_words_and_texts(rt: HostRuntime) -> Result<(), Fail> {
-    assert_told(&rt, rt.alloc(), &REFUSED)
+    assert!(rt; are_told(&rt, rt.alloc(), &REFUSED)?);
+    Ok(())
+}
+
+/// Whether a source that fails at its first call ends the run of the line with 8.
+fn is_fault<R: Threads + Sync>(rt: &R, alloc: Global, line: &str) -> Result<bool, AllocError> {
+    let mut source = MemSource {
+        bytes: Vec::from_slice(alloc, TWO_INDICES)?,
+        at: 0,
+        fail_at: Vec::from_slice(alloc, &[0])?,
+        calls: 0,
+        faults: 0,
+    };
+    let told = run_words(rt, alloc, line, &mut source, sink_of(alloc, 64, &[])?)?;
+    Ok(told.is(8, b"refused: read fault\n"))
+}
+
+/// Whether each command that reads ends so.
+fn are_faults<R: Threads + Sync>(rt: &R, alloc: Global) -> Result<bool, AllocError> {
+    for line in ["brackets", "quick 2 0", "json - 1 0", "verify"] {
+        if !is_fault(rt, alloc, line)? {
+            return Ok(false);
+        }
+    }
+    Ok(true)
 }
 
 #[test]
 fn a_source_that_fails(rt: HostRuntime) -> Result<(), Fail> {
-    let alloc = rt.alloc();
-    for line in ["brackets", "quick 2 0", "json - 1 0", "verify"] {
-        let mut source = MemSource {
-            bytes: Vec::from_slice(alloc, TWO_INDICES)?,
-            at: 0,
-            fail_at: Vec::from_slice(alloc, &[0])?,
-            calls: 0,
-            faults: 0,
-        };
-        let told = run_words(&rt, alloc, line, &mut source, sink_of(alloc, 64, &[])?)?;
-        assert!(rt; told.is(8, b"refused: read fault\n"), "{}", line);
-    }
+    assert!(rt; are_faults(&rt, rt.alloc())?);
     Ok(())
 }
 
-// The second line of the first two is cut, and all of the others, which write one line by one call.
-#[test]
-fn a_sink_that_fails(rt: HostRuntime) -> Result<(), Fail> {
-    let alloc = rt.alloc();
-    let told = run_over(
-        &rt,
-        alloc,
+/// The second line of these is cut.
+const CUT_AT_1: [Case; 2] = [
+    (
         "brackets",
         b"airy 1\ndim 2\nB 1 0 0 1\nend\n",
-        &[1],
-    )?;
-    assert!(rt; told.is(9, b"0 1 0 -1\n"));
-    let told = run_over(&rt, alloc, "quick 2 0", TWO_INDICES, &[1])?;
-    assert!(rt; told.is(9, b"0,3 [0 0 0] 1\n"));
-    for line in ["json bgw 1 0", "verify"] {
-        let told = run_over(&rt, alloc, line, b"", &[0])?;
-        assert!(rt; told.is(9, b""), "{}", line);
-    }
+        9,
+        b"0 1 0 -1\n",
+    ),
+    ("quick 2 0", TWO_INDICES, 9, b"0,3 [0 0 0] 1\n"),
+];
+
+/// And all of these, which write one line by one call.
+const CUT_AT_0: [Case; 2] = [("json bgw 1 0", b"", 9, b""), ("verify", b"", 9, b"")];
+
+#[test]
+fn a_sink_that_fails(rt: HostRuntime) -> Result<(), Fail> {
+    let behind = are_cut(&rt, rt.alloc(), &CUT_AT_1, &[1])?;
+    assert!(rt; behind && are_cut(&rt, rt.alloc(), &CUT_AT_0, &[0])?);
     Ok(())
 }

@@ -57,7 +57,8 @@ fn verify_given<W: Sink>(plan: &Plan, values: &[Frac], out: &mut W) -> u8
 /// Says that a key's pivot sum is another number than the document's value: `KEY first I gives SUM, table has GIVEN`.
 #[tactic(auto, unfolding(crate::specs::Verify::difference_text, run_reports::specs::Tables::pivot_text))]
 fn refuse_difference<W: Sink>(out: &mut W, key: &Key, pivot: u8, sum: Frac, given: Frac) -> u8
-    ensures { Ends (record { status = 7; bytes = codes "refused: " ++ difference_text key.now pivot sum given ++ codes "\n" }) (W.state out.old) (W.state out.new) result }
+    ensures { Ends (record { status = 7; bytes = codes "refused: " ++ difference_text key.now pivot sum given ++ codes "\n" })
+        (W.state out.old) (W.state out.new) result }
 {
     let mut name = [0u8; 128];
     let name_end = key.write_into(&mut name);

@@ -1,34 +1,12 @@
 -- What a large structure's stored tensors lead to is what is meant by its seed and dim.
-use Rattle.std.proofs.Common.{◌≡◌, ◌≢◌, ◌⊎◌, inl, inr, ℕ, zero, suc, ◌-◌, refl, sym, ap, ap₂, ◌∙◌, subst, arith, length, List, ◌++◌}
-use Rattle.std.specs.Prelude.{Bool, true, false, cond, IsTrue, nat_eq, codes, decimal, Option, Some}
-use Rattle.airy_math.specs.Keys.{Key, total}
-use Rattle.airy_math.specs.declared.Shape.{Shape}
-use Rattle.airy_math.specs.Relations.{Close}
-use Rattle.airy_math.specs.Ranks.{PlanLaw}
-use Rattle.airy_math.specs.BelowDim.{BelowDimLaw}
-use Rattle.airy_math.specs.Tensors.{Tensors, SameEntries}
-use Rattle.airy_math.specs.Jobs.{Bulk, IsSound, planned_tensors}
-use Rattle.airy_relations.specs.declared.verdict.Verdict.{Verdict}
-use Rattle.airy_relations.specs.declared.verdict.Verdict.TheVariants.{Closed, Differs, Over}
-use Rattle.airy_relations.specs.Verdicts.{verdict}
-use Rattle.airy_relations.specs.SameVerdict.{SameVerdictLaw}
-use Rattle.amp_terms.specs.declared.Outcome.{Outcome}
+use Rattle.std.proofs.Common.{◌≡◌, ◌≢◌, ◌⊎◌, inl, inr, ℕ, zero, suc, ◌-◌, refl, sym, ap, ap₂, ◌∙◌, subst, arith, length, List, ◌++◌, Bool, true, false, cond, IsTrue, nat_eq, codes, decimal, Option, Some}
+use Rattle.run_reports.proofs.Names.{Key, total, Shape, Close, PlanLaw, BelowDimLaw, Tensors, SameEntries, IsSound, planned_tensors, Verdict, Closed, Differs, Over, verdict, SameVerdictLaw, Outcome, NoOrdersLaw, SameTablesLaw, Entries, looked_up, Taking, Report, Ends, EndsOrWants, bound_refused, out_of_memory, refusal, EndsBy, IsVerdict, closed, relations_report, stored_report, ArePlanned, is_bound, making_over, table_report, has_letter, count_text, formed_stored, last_of, summary_text, summed}
+use Rattle.airy_math.specs.Jobs.{Bulk}
 use Rattle.bulk_tensors.specs.Bulk.{after, bulk, bulk_refusal, diagonal, NamesStep, StandsForBulk}
 use Rattle.bulk_tensors.specs.Change.{changed, gains}
 use Rattle.bulk_tensors.specs.declared.full_tensors.BulkErr.{BulkErr}
 use Rattle.bulk_tensors.specs.declared.full_tensors.BulkErr.TheVariants as error
 use Rattle.std.proofs.Math.Nat.{le_refl}
-use Rattle.airy_exists.specs.Existence.{NoOrdersLaw}
-use Rattle.series_law.specs.SameTables.{SameTablesLaw}
-use Rattle.sparse_tensor.specs.Entries.{Entries, looked_up}
-use Rattle.airy_io.specs.Causes.{Taking}
-use Rattle.run_reports.specs.Report.{Report, Ends, EndsOrWants, bound_refused, out_of_memory, refusal}
-use Rattle.run_reports.specs.Ends.{EndsBy}
-use Rattle.run_reports.specs.Relations.{IsVerdict, closed, relations_report}
-use Rattle.run_reports.specs.Tables.{stored_report}
-use Rattle.run_reports.specs.StructureTables.{ArePlanned, is_bound, making_over, table_report}
-use Rattle.run_reports.specs.Structures.{has_letter}
-use Rattle.run_reports.specs.Forms.{count_text, formed_stored, last_of, summary_text, summed}
 use Rattle.run_reports.specs.declared.tables.Form.TheVariants.{Summary}
 use Rattle.airyrun.specs.Bulks.{LeadsToBulk, bulk_error, bulk_report, changes_report, closed_summary}
 use Rattle.run_reports.proofs.HeadlineLemmas.{JobLaws}
@@ -36,6 +14,7 @@ use Rattle.run_reports.proofs.TableHeadline.{whole_of}
 use Rattle.amp_plan.proofs.SameLimits.{counts_same}
 use Rattle.run_reports.proofs.StructureLemmas.{stood_report, table_never}
 use Rattle.airyrun.proofs.ValuedLemmas.{same_full}
+use Rattle.bulk_tensors.proofs.BulkLaw.{after_dim}
 
 -- the laws that a large structure rests on
 pub record BulkLaws : Type 0 where
@@ -56,11 +35,6 @@ same_summary t T letter X once below tables same =
         → count_text (codes "cells ") (length ks) ++ (count_text (codes "needs ") (total cs) ++ (last_of letter s ks os ++ codes "solution\n"))
         ≡ count_text (codes "cells ") (length js) ++ (count_text (codes "needs ") (total ds) ++ (last_of letter s' js ps ++ codes "solution\n"))
     joined a b c d = cc
-
-after_dim : (seed dim n : ℕ) → (after seed dim n).dim ≡ dim
-unfolding after diagonal changed gains
-after_dim seed dim zero = refl
-after_dim seed dim (suc n) = after_dim seed dim n
 
 bulk_dim : (seed dim : ℕ) → (bulk seed dim).dim ≡ dim
 unfolding bulk

@@ -1,54 +1,25 @@
 -- The number that the divisions of a table's Values give is that of the structure, and of every solution.
-use Rattle.std.proofs.Common.{◌≡◌, ◌≢◌, inl, inr, ℕ, zero, suc, ◌<◌, ◌≤◌, ◌+◌, ◌-◌, ◌/◌, refl, sym, ap, ap₂, ◌∙◌, subst, arith, length, List, [], ◌∷◌, map, get_or}
-use Rattle.std.specs.Prelude.{Bool, true, false, cond, Option, Some, None, Ok, Err, codes, ◌++◌}
+use Rattle.std.proofs.Common.{◌≡◌, ◌≢◌, inl, inr, ℕ, zero, suc, ◌<◌, ◌≤◌, ◌+◌, ◌-◌, ◌/◌, refl, sym, ap, ap₂, ◌∙◌, subst, arith, length, List, [], ◌∷◌, map, get_or, Bool, true, false, cond, Option, Some, None, Ok, Err, codes, ◌++◌}
+use Rattle.run_reports.proofs.Names.{ℚ, ◌*ℚ◌, 0ℚ, 1ℚ, Key, euler, key_of, total, letter_of, outer, power, Series, Shape, planned, IsPlanned, top_wk, top_bgw, wp_shape, wp_cut, Structure, IsSolutionOf, IsSound, planned_tensors, tensors_at, letter_value, Tensors, SameEntries, BelowDimLaw, PlanLaw, place_of, Family, Planning, keys_of, tensors_of, rank_at, are_below, place_in, Outcome, outcomes, value_in, value_or_zero, full_table, first_without, value_at, Shown, SameTablesLaw, JobUniquenessLaw, looked_up, fraction_text, Taking, key_text, Report, Ends, bound_refused, refusal, EndsBy, structure_of, is_bound, has_letter}
 use Rattle.std.proofs.Math.Nat.{le_refl}
 use lib.Dec.{ltb}
-use Rattle.airy_math.specs.Rational.{ℚ, ◌*ℚ◌}
-use Rattle.airy_math.specs.RationalLaws.{0ℚ, 1ℚ}
-use Rattle.airy_math.specs.Keys.{Key, euler, key_of, total}
-use Rattle.airy_math.specs.Cuts.{letter_of, outer, power}
-use Rattle.airy_math.specs.Series.{Series}
 use Rattle.airy_math.specs.Shapes.{covers, live}
-use Rattle.airy_math.specs.declared.Shape.{Shape}
-use Rattle.airy_math.specs.Planned.{planned, IsPlanned}
 use Rattle.airy_math.specs.Named.{wk_shape, wk, bgw}
-use Rattle.airy_math.specs.Families.{top_wk, top_bgw, wp_shape, wp_cut}
-use Rattle.airy_math.specs.Jobs.{Structure, IsSolutionOf, IsSound, planned_tensors, tensors_at, letter_value}
-use Rattle.airy_math.specs.Tensors.{Tensors, SameEntries}
-use Rattle.airy_math.specs.BelowDim.{BelowDimLaw}
-use Rattle.airy_math.specs.Ranks.{PlanLaw, place_of}
-use Rattle.airy_math.specs.declared.Family.{Family}
 use Rattle.airy_math.specs.declared.Family.TheVariants as family
 use Rattle.airy_math.proofs.FamilyLaw.{LikeWk, LikeBgw, wk_like, wp_like, bgw_like}
 use Rattle.airy_index.specs.Fields.{IsKey}
-use Rattle.amp_plan.specs.Plans.{Planning, keys_of, tensors_of, rank_at}
-use Rattle.amp_plan.specs.Places.{are_below, place_in}
 use Rattle.amp_plan.specs.declared.place.Place.TheVariants as place
 use Rattle.amp_plan.proofs.PlaceLemmas.{sorted_below}
-use Rattle.amp_terms.specs.declared.Outcome.{Outcome}
 use Rattle.amp_terms.specs.declared.Outcome.TheVariants.{Value, Over}
-use Rattle.amp_terms.specs.Outcomes.{outcomes, value_in, value_or_zero}
-use Rattle.amp_terms.specs.Tables.{full_table, first_without, value_at}
-use Rattle.series_law.specs.Pivots.{Shown}
-use Rattle.series_law.specs.SameTables.{SameTablesLaw}
 use Rattle.series_law.specs.Amplitudes.{HoldsOutcomes}
-use Rattle.series_law.specs.Jobs.{JobUniquenessLaw}
 use Rattle.intersection_law.specs.Equations.{WittenLaw, NorburyLaw}
-use Rattle.sparse_tensor.specs.Entries.{looked_up}
 use Rattle.correlators.specs.Divisions.{over_odd_factorials}
 use Rattle.correlators.specs.Numbers.{number_in, number_at, number_of, quotient_at}
 use Rattle.correlators.specs.declared.refusals.CorrErr.{CorrErr}
 use Rattle.correlators.specs.declared.refusals.CorrErr.TheVariants as refused
 use Rattle.correlators.specs.Laws.{NumberOfSolutions}
-use Rattle.frac128.specs.Fraction.{fraction_text}
-use Rattle.airy_io.specs.Causes.{Taking}
-use Rattle.airy_index.specs.Text.{key_text}
-use Rattle.run_reports.specs.Report.{Report, Ends, bound_refused, refusal}
-use Rattle.run_reports.specs.Ends.{EndsBy}
 use Rattle.airyrun.specs.Numbers.{IsNumber, IsQuotient, LeadsToNumber, MeetsEquations, euler_of, number_report, quotient, quotient_report, valued_report}
 use Rattle.run_reports.proofs.TableHeadline.{family_sound}
-use Rattle.run_reports.specs.StructureTables.{structure_of, is_bound}
-use Rattle.run_reports.specs.Structures.{has_letter}
 use Rattle.airyrun.specs.Valued.{IsValued, Refuses}
 use Rattle.airyrun.proofs.ValuedLemmas.{cell_there}
 

@@ -1,34 +1,15 @@
 -- What a check of the relations leads to.
-use Rattle.std.proofs.Common.{◌≡◌, ◌≢◌, ◌⊎◌, inl, inr, ℕ, ◌+◌, ◌*◌, ◌≤◌, min, arith, refl, ◌∙◌, subst}
-use Rattle.std.specs.Prelude.{None, List}
-use Rattle.airy_math.specs.Rational.{ℚ}
-use Rattle.airy_math.specs.declared.Family.{Family}
+use Rattle.std.proofs.Common.{◌≡◌, ◌≢◌, ◌⊎◌, inl, inr, ℕ, ◌+◌, ◌*◌, ◌≤◌, min, arith, refl, ◌∙◌, subst, None, List}
+use Rattle.run_reports.proofs.Names.{ℚ, Family, wp_cut, BelowDimLaw, Close, Tensors, SameEntries, Entries, looked_up, Verdict, Closed, Differs, Over, SameVerdictLaw, verdict, Names, MakeErr, Taking, Report, Ends, out_of_memory, making_report, making_error, structure_of, has_letter, IsVerdict, relations_report, closed, text_relations, EndsBy}
+use Rattle.run_reports.proofs.RelationLemmas.{no_four}
 use Rattle.airy_math.specs.declared.Family.TheVariants.{Wk, Bgw, Wp}
 use Rattle.airy_math.specs.Named.{wk, bgw}
-use Rattle.airy_math.specs.Families.{wp_cut}
-use Rattle.airy_math.specs.BelowDim.{BelowDimLaw}
-use Rattle.airy_math.specs.Relations.{Close}
-use Rattle.airy_math.specs.Tensors.{Tensors, SameEntries}
-use Rattle.sparse_tensor.specs.Entries.{Entries, looked_up}
 use Rattle.airy_relations.specs.declared.verdict.Rel.{Rel}
-use Rattle.airy_relations.specs.declared.verdict.Verdict.{Verdict}
-use Rattle.airy_relations.specs.declared.verdict.Verdict.TheVariants.{Closed, Differs, Over}
 use Rattle.airy_relations.specs.NoDifference.{FindsNoDifference}
-use Rattle.airy_relations.specs.SameVerdict.{SameVerdictLaw}
-use Rattle.airy_relations.specs.Verdicts.{verdict}
 use Rattle.named_families.specs.Closing.{MeetsRelations, WkCloses, BgwCloses, WpCloses}
-use Rattle.named_families.specs.Families.{Names}
-use Rattle.named_families.specs.declared.petersson.MakeErr.{MakeErr}
 use Rattle.named_families.specs.declared.petersson.MakeErr.TheVariants as make
-use Rattle.airy_io.specs.Causes.{Taking}
-use Rattle.run_reports.specs.Report.{Report, Ends, out_of_memory}
-use Rattle.run_reports.specs.Tables.{making_report}
-use Rattle.run_reports.specs.StructureTables.{making_error, structure_of}
-use Rattle.run_reports.specs.Structures.{has_letter}
-use Rattle.run_reports.specs.Relations.{IsVerdict, relations_report, closed, text_relations}
 use Rattle.airyrun.specs.Relations.{family_tensors, family_over, family_relations}
 use Rattle.airyrun.specs.Run.{LeadsToRelations, LeadsToFamilyRelations, LeadsToTextRelations}
-use Rattle.run_reports.specs.Ends.{EndsBy}
 
 status_closed : (v : Verdict) → (relations_report v closed).status ≡ 0 → v ≡ Closed
 unfolding relations_report closed
@@ -108,12 +89,6 @@ module _ (laws : StoredLaws) (f : Family) (n : ℕ) where
   family_closes : (t : Entries) → AreBelow t f n → Close (family_tensors f n) n
   unfolding looked_up
   family_closes t stored = ((laws.below (looked_up t) (family_tensors f n) stored.entries).relations n (stored_places t f n stored)).0 (meets t stored).closes
-
-  no_four : (v : Verdict) → FindsNoDifference v → (relations_report v closed).status ≢ 4
-  unfolding FindsNoDifference relations_report closed
-  no_four Closed d = λ e. omega arith
-  no_four (Differs rel place left right) d = absurd d
-  no_four (Over rel place) d = λ e. omega arith
 
   module _ (w w' : Taking) (status : ℕ) where
     -- the check of tensors that are made

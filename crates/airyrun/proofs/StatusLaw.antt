@@ -1,39 +1,22 @@
 -- The status of a run and its cause, both ways.
-use Rattle.std.proofs.Common.{◌≡◌, ◌⊎◌, inl, inr, ℕ, ◌≤◌, [], arith, refl, sym, ap, ◌∙◌, subst, length}
-use Rattle.std.specs.Prelude.{Option, Some, None, Bool, true, false, cond, List, nat_le}
-use Rattle.airy_math.specs.Jobs.{Structure, planned_tensors}
-use Rattle.amp_plan.specs.Limits.{Limit, Within, PassesBound, PassesCells, PassesNeeds, limit}
-use Rattle.sparse_tensor.specs.Entries.{Entries, looked_up}
-use Rattle.tensor_text.specs.Grammar.{TextReading, Read}
+use Rattle.std.proofs.Common.{◌≢◌, ◌≡◌, ◌⊎◌, inl, inr, ℕ, ◌≤◌, [], arith, refl, sym, ap, ◌∙◌, subst, length, Option, Some, None, Bool, true, false, cond, List, nat_le}
+use Rattle.run_reports.proofs.Names.{Structure, planned_tensors, Limit, Within, PassesBound, PassesCells, PassesNeeds, limit, Entries, looked_up, TextReading, Read, Line, Verdict, Closed, Differs, Over, verdict, relations_report, of_relations, text_relations, Report, bound_refused, out_of_memory, making_report, plan_report, is_bound, structure_of, making_over, table_report, text_structure, reach, text_too_long, line_refused, Gives, Run, refused, of_reading, of_text}
 use Rattle.tensor_text.specs.Grammar as grammar
 use Rattle.ask_seats.specs.Replies.{Reply, lines_text}
 use Rattle.ask_seats.specs.Sessions.{Admitted}
-use Rattle.command_words.specs.declared.line.Line.{Line}
-use Rattle.airy_relations.specs.declared.verdict.Verdict.{Verdict}
-use Rattle.airy_relations.specs.declared.verdict.Verdict.TheVariants.{Closed, Differs, Over}
-use Rattle.airy_relations.specs.Verdicts.{verdict}
-use Rattle.run_reports.specs.Relations.{relations_report, of_relations, text_relations}
-use Rattle.command_words.specs.Words.{Reading, Named, Text, Table, Session, Probe, Relations, Number, Volume, Bulk, Refused}
+use Rattle.command_words.specs.Words.{Kind, Reading, Named, Text, Table, Session, Probe, Relations, Number, Volume, Bulk, Refused}
 use Rattle.command_words.specs.Options.{reading_of}
-use Rattle.run_reports.specs.Report.{Report, bound_refused, out_of_memory}
-use Rattle.run_reports.specs.Tables.{making_report, plan_report}
-use Rattle.run_reports.specs.StructureTables.{is_bound, structure_of, making_over, table_report}
-use Rattle.run_reports.specs.Structures.{text_structure}
 use Rattle.session_law.specs.Sessions.{session_of, session_report}
 use Rattle.airyrun.specs.Sessions.{LeadsToSession}
-use Rattle.command_words.specs.Bounds.{reach}
-use Rattle.run_reports.specs.Texts.{text_too_long, line_refused}
-use Rattle.run_reports.specs.Runs.{Run}
 use Rattle.airyrun.specs.Run.{Answers, Leads, LeadsToTable, LeadsToClosedTable, LeadsToClosedSession, LeadsToProbe, LeadsToTextRelations}
-use Rattle.run_reports.specs.Leads.{refused, of_reading, of_text}
 use Rattle.airyrun.specs.Laws.{IsMeant, closed_table, closed_session, probed_table, meant, MayReply, OneStatusLaw, OneReportLaw, IsSession, IsWanting, TakesMemory, HasCauses, IsComplete}
-use Rattle.airyrun.proofs.RunLemmas.{other_family, other_probe, other_closed_table, other_family_session, other_closed_session, other_family_relations, other_text_relations, other_number, other_volume, other_bulk}
+use Rattle.airyrun.proofs.RunLemmas.{bulk_said, closed_said, closed_session_plain, family_relations_said, family_said, number_said, other_closed_session, other_family_session, probe_said, text_relations_said, volume_said}
 use Rattle.run_reports.proofs.StatusLemmas.{plain_table, status_of, plain_of, plain_text, plain_bound}
 use Rattle.session_law.proofs.SessionLemmas.{plain_session}
 use Rattle.airyrun.proofs.StatusLemmas.{wants_status, plain_checked, plain_family, plain_number, plain_volume, plain_bulk}
 use Rattle.run_reports.proofs.SourceLemmas.{other_text, other_bound, of_short, of_long}
-use Rattle.run_reports.proofs.CauseLemmas as run_causes
-use Rattle.run_reports.proofs.CauseLemmas.{IsAmple, Judged, OfText, Stands, bound_stands, plain_range, stands_said, stands_without, text_stands}
+use Rattle.run_reports.proofs.JobLemmas.{JudgedOne, judged_bound, judged_said, judged_text, judged_word}
+use Rattle.run_reports.proofs.CauseLemmas.{IsAmple, Judged, OfText, Stands, is_meant, at_fault, is_wanting, bound_stands, plain_range, stands_said}
 
 -- ---- how the reports stand to what is meant
 
@@ -48,119 +31,96 @@ lacks_status : (reading : Reading) (report : Report) → Lacks reading report �
 lacks_status reading report (inl e) = status_of e
 lacks_status reading report (inr h) = h.1
 
+abbrev JudgedRun : Run → Reading → Type 0
+JudgedRun run r = Judged run (Leads r run) (IsMeant r) (Wanting r) (TakesMemory r) (λ place. r ≡ Refused place)
+
 -- what is meant of a job that is no session, or of a text that is refused
 plainly : {r : Reading} {text : List ℕ} {report : Report} → report ≡ meant r text [] → (report.status ≡ 0 → MayReply r text []) → IsMeant r text report
 plainly e may = record { replies = []; said = e; admitted = may }
 
--- what is said of a text's entries: with some replies it is what they lead to
-abbrev IsNext : Reading → (Entries → Report → Type 0) → (List Reply → Entries → Report) → Type 0
-IsNext r leads next =
-    (text : List ℕ) (t : Entries) (report : Report) → grammar.reading_of text ≡ Read t → leads t report
-    → ((replies : List Reply) × (report ≡ next replies t) × (report.status ≡ 0 → MayReply r text replies)) ⊎ Lacks r report
+-- of a job whose report does not look at replies
+of_one : (run : Run) (r : Reading) → ((text : List ℕ) (replies : List Reply) → meant r text replies ≡ meant r text []) → ((text : List ℕ) → MayReply r text [])
+    → JudgedOne run (λ place. r ≡ Refused place) (Leads r run) (λ text. meant r text []) (TakesMemory r) → JudgedRun run r
+of_one run r alone may one = record {
+  stands = λ report leads. by report (one.stands report leads);
+  ample = λ text report m. one.ample text report (m.said ∙ alone text m.replies);
+  ten = λ report w. lacks_status r report w.1;
+  taking = λ report w. w.0;
+  word = one.word;
+}
+  where
+    by : (report : Report) → Stands run (λ text report. report ≡ meant r text []) (λ report. TakesMemory r × (report ≡ out_of_memory)) report → Stands run (IsMeant r) (Wanting r) report
+    by report (is_meant text told m) = is_meant text told (plainly m (λ e. may text))
+    by report (at_fault e rose) = at_fault e rose
+    by report (is_wanting w) = is_wanting (w.0, inl w.1)
 
-module _ (r : Reading) (leads : Entries → Report → Type 0) (next : List Reply → Entries → Report)
-    (is : (text : List ℕ) (replies : List Reply) → meant r text replies ≡ of_text (next replies) text) (takes : TakesMemory r) (is_next : IsNext r leads next) where
-  of_entries : OfText (IsMeant r) (Wanting r) leads
-  unfolding of_reading text_too_long line_refused
-  of_entries = record {
-    too_long = λ text h. plainly (sym (of_long (next []) text h) ∙ sym (is text [])) (λ z. absurd (omega (arith, z)));
-    no_text = λ text n kind short given. plainly (sym (of_short (next []) text short ∙ ap (of_reading (next [])) given) ∙ sym (is text [])) (λ z. absurd (omega (arith, z)));
-    entries = λ text t report short given led. by text t report short given (is_next text t report given led);
-    memory = (takes, inl refl);
-  }
-    where
-      by : (text : List ℕ) (t : Entries) (report : Report) → length text ≤ 1048576 → grammar.reading_of text ≡ Read t
-          → ((replies : List Reply) × (report ≡ next replies t) × (report.status ≡ 0 → MayReply r text replies)) ⊎ Lacks r report → IsMeant r text report ⊎ Wanting r report
-      by text t report short given (inl m) =
-          inl (record { replies = m.0; said = m.1 ∙ sym (of_short (next m.0) text short ∙ ap (of_reading (next m.0)) given) ∙ sym (is text m.0); admitted = m.2 })
-      by text t report short given (inr w) = inr (takes, w)
-
-said_next : (r : Reading) (s : Structure) (X : ℕ) (want report : Report) → LeadsToTable s X want report → ((replies : List Reply) × (report ≡ want) × (report.status ≡ 0 → Unit {0})) ⊎ Lacks r report
-said_next r s X want report leads = elim leads.said [ inl e ↦ inl ([], e, λ z. tt) | inr e ↦ inr (inl e.1) ]
+-- and of a session
+of_session : (run : Run) (kind : Kind) (X workers : ℕ) (lines : List Line) → let r = Session kind X workers lines in
+    ((report : Report) → Leads r run report → Stands run (IsMeant r) (Wanting r) report) → ((text : List ℕ) (replies : List Reply) → IsAmple (meant r text replies).status)
+    → ((report : Report) → Leads r run report → report.status ≢ 2) → JudgedRun run r
+of_session run kind X workers lines stands ample word = record {
+  stands = stands;
+  ample = λ text report m. subst IsAmple (sym (status_of m.said)) (ample text m.replies);
+  ten = λ report w. lacks_status (Session kind X workers lines) report w.1;
+  taking = λ report w. w.0;
+  word = λ report leads h. absurd (word report leads h);
+}
 
 -- the entries of a text are told by its reading
 same_entries : (text : List ℕ) (t t' : Entries) → grammar.reading_of text ≡ Read t → grammar.reading_of text ≡ Read t' → t ≡ t'
 same_entries text t t' e e' = cc
 
-said_session : (t : Entries) (text : List ℕ) (X workers : ℕ) (lines : List Line) (whole : List Reply → Report) (report : Report) → grammar.reading_of text ≡ Read t → LeadsToSession (text_structure t) X workers lines whole report
-    → ((replies : List Reply) × (report ≡ whole replies) × (report.status ≡ 0 → (t' : Entries) → grammar.reading_of text ≡ Read t' → Admitted (session_of (text_structure t') (reach X lines) workers) X lines replies)) ⊎ Lacks (Session Text X workers lines) report
-said_session t text X workers lines whole report given leads =
-    elim leads.said [ inl e ↦ inl (leads.replies, e, λ z t' e'. subst (λ u. Admitted (session_of (text_structure u) (reach X lines) workers) X lines leads.replies) (same_entries text t t' given e') (leads.admitted z)) | inr e ↦ inr (inr (tt, wants_status _ X lines report e.1)) ]
+module _ (X workers : ℕ) (lines : List Line) (fits : is_bound (reach X lines) ≡ true) where
+  abbrev r : Reading
+  r = Session Text X workers lines
 
-stands_by : (run : Run) (r : Reading) (report : Report) → Leads r run report → Stands run (IsMeant r) (Wanting r) report
-unfolding meant MayReply closed_table closed_session probed_table
-stands_by run (Refused place) report leads = stands_without run (λ text. plainly leads (λ z. tt))
-stands_by run (Table (Named family) X workers) report leads = stands_said run (λ e text. plainly e (λ z. tt)) (λ w. (w.0, inl w.1)) leads.said
-stands_by run (Table Text X workers) report leads =
-    bound_stands run X (λ outside text. plainly (rw outside refl) (λ z. tt))
-    (λ bounded. of_entries (Table Text X workers) (LeadsToClosedTable X) (λ replies. closed_table X) (λ text replies. rw bounded refl) bounded (λ text t r given l. said_next (Table Text X workers) _ X _ r l.table)) report leads
-stands_by run (Session (Named family) X workers lines) report leads =
-    stands_said run (λ e text. record { replies = leads.replies; said = e; admitted = leads.admitted }) (λ w. (w.0, inr (tt, wants_status _ X lines report w.1))) leads.said
-stands_by run (Session Text X workers lines) report leads =
-    bound_stands run (reach X lines) (λ outside text. plainly (rw outside refl) (λ z. absurd (omega (arith, z))))
-    (λ bounded. of_entries (Session Text X workers lines) (LeadsToClosedSession X workers lines) (closed_session X (reach X lines)) (λ text replies. rw bounded refl) bounded
-    (λ text t r given l. said_session t text X workers lines _ r given l.session)) report leads
-stands_by run (Probe X workers) report leads =
-    bound_stands run X (λ outside text. plainly (rw outside refl) (λ z. tt))
-    (λ bounded. of_entries (Probe X workers) (LeadsToProbe X) (λ replies. probed_table X) (λ text replies. rw bounded refl) bounded (λ text t r given l. said_next (Probe X workers) _ X _ r l.table)) report leads
-stands_by run (Relations N (Named family)) report leads = stands_said run (λ e text. plainly e (λ z. tt)) (λ w. (tt, inl w)) leads.checked.said
-stands_by run (Relations N Text) report leads =
-    text_stands run (of_entries (Relations N Text) (LeadsToTextRelations N) (λ replies. text_relations N) (λ text replies. refl) tt
-    (λ text t r given l. elim l.said [ inl e ↦ inl ([], e, λ z. tt) | inr e ↦ inr (inl e) ])) report leads
-stands_by run (Number family key) report leads = stands_said run (λ e text. plainly e (λ z. tt)) (λ w. (w.0, inl w.1)) leads.said
-stands_by run (Volume g n) report leads = stands_said run (λ e text. plainly e (λ z. tt)) (λ w. (w.0, inl w.1)) leads.said
-stands_by run (Bulk seed dim X workers) report leads = stands_said run (λ e text. plainly e (λ z. tt)) (λ w. (w.0, inl w.1)) leads.said
+  abbrev next : List Reply → Entries → Report
+  next = closed_session X (reach X lines)
 
--- ---- the statuses
+  is : (text : List ℕ) (replies : List Reply) → of_text (next replies) text ≡ meant r text replies
+  unfolding meant
+  is text replies = rw fits refl
 
-meant_ample : (r : Reading) (text : List ℕ) (replies : List Reply) → IsAmple (meant r text replies).status
-unfolding meant closed_table closed_session probed_table
-meant_ample (Refused place) text replies = (inr (omega arith, omega arith), λ e. omega (arith, e))
-meant_ample (Table (Named family) X workers) text replies = plain_range (plain_table (structure_of family) X)
-meant_ample (Table Text X workers) text replies = plain_range (plain_bound X _ (plain_text (closed_table X) (λ t. plain_of t (table_report (text_structure t) X) (plain_table (text_structure t) X)) text))
-meant_ample (Session (Named family) X workers lines) text replies = plain_range (plain_session (structure_of family) X (reach X lines) replies)
-meant_ample (Session Text X workers lines) text replies =
-    plain_range (plain_bound (reach X lines) _ (plain_text (closed_session X (reach X lines) replies) (λ t. plain_of t (session_report (text_structure t) X (reach X lines) replies) (plain_session (text_structure t) X (reach X lines) replies)) text))
-meant_ample (Probe X workers) text replies = plain_range (plain_bound X _ (plain_text (probed_table X) (λ t. plain_table (text_structure t) X) text))
-meant_ample (Relations N (Named family)) text replies = plain_range (plain_family family N)
-meant_ample (Relations N Text) text replies = plain_range (plain_text (text_relations N) (plain_checked N) text)
-meant_ample (Number family key) text replies = plain_range (plain_number (structure_of family) key)
-meant_ample (Volume g n) text replies = plain_range (plain_volume g n)
-meant_ample (Bulk seed dim X workers) text replies = plain_range (plain_bulk seed dim X)
+  of_entries : OfText (IsMeant r) (Wanting r) (LeadsToClosedSession X workers lines)
+  unfolding of_reading text_too_long line_refused MayReply closed_session
+  of_entries = record {
+    too_long = λ text h. plainly (sym (of_long (next []) text h) ∙ is text []) (λ z. absurd (omega (arith, z)));
+    no_text = λ text n kind short given. plainly (sym (of_short (next []) text short ∙ ap (of_reading (next [])) given) ∙ is text []) (λ z. absurd (omega (arith, z)));
+    entries = λ text t report short given leads. elim leads.session.said [
+      | inl e ↦ inl (record {
+        replies = leads.session.replies;
+        said = e ∙ sym (of_short (next leads.session.replies) text short ∙ ap (of_reading (next leads.session.replies)) given) ∙ is text leads.session.replies;
+        admitted = λ z t' e'. subst (λ u. Admitted (session_of (text_structure u) (reach X lines) workers) X lines leads.session.replies) (same_entries text t t' given e') (leads.session.admitted z);
+      })
+      | inr e ↦ inr (fits, inr (tt, wants_status _ X lines report e.1))
+    ];
+    memory = (fits, inl refl);
+  }
 
-refused_word : (run : Run) (r : Reading) (report : Report) → Leads r run report → report.status ≡ 2 → (place : ℕ) × (r ≡ Refused place)
-refused_word run (Refused place) report leads h = (place, refl)
-refused_word run (Table (Named family) X workers) report leads h = absurd ((other_family family X report leads).0 h)
-refused_word run (Table Text X workers) report leads h = absurd (other_bound X _ _ _ report (other_closed_table X) leads h)
-refused_word run (Session (Named family) X workers lines) report leads h = absurd ((other_family_session family X workers lines report leads).0 h)
-refused_word run (Session Text X workers lines) report leads h = absurd (other_bound (reach X lines) _ _ _ report (other_closed_session X workers lines) leads h)
-refused_word run (Probe X workers) report leads h = absurd (other_bound X _ _ _ report (other_probe X) leads h)
-refused_word run (Relations N (Named family)) report leads h = absurd ((other_family_relations family N report leads).0 h)
-refused_word run (Relations N Text) report leads h = absurd (other_text _ _ _ report (other_text_relations N) leads h)
-refused_word run (Number family key) report leads h = absurd ((other_number family key report leads).0 h)
-refused_word run (Volume g n) report leads h = absurd ((other_volume g n report leads).0 h)
-refused_word run (Bulk seed dim X workers) report leads h = absurd ((other_bulk seed dim X report leads).0 h)
+pub judged : (run : Run) (r : Reading) → JudgedRun run r
+unfolding meant MayReply
+judged run (Refused place) = of_one run (Refused place) (λ text replies. refl) (λ text. tt) (judged_word run _ place refl)
+judged run (Table (Named family) X workers) = of_one run (Table (Named family) X workers) (λ text replies. refl) (λ text. tt) (judged_said run _ (family_said family X))
+judged run (Table Text X workers) = of_one run (Table Text X workers) (λ text replies. refl) (λ text. tt) (judged_bound run _ (LeadsToClosedTable X) (closed_table X) X (closed_said X))
+judged run (Session (Named family) X workers lines) =
+    of_session run (Named family) X workers lines
+    (λ report leads. stands_said run (λ e text. record { replies = leads.replies; said = e; admitted = leads.admitted }) (λ w. (w.0, inr (tt, wants_status _ X lines report w.1))) leads.said)
+    (λ text replies. plain_range (plain_session (structure_of family) X (reach X lines) replies)) (λ report leads. (other_family_session family X workers lines report leads).0)
+judged run (Session Text X workers lines) =
+    of_session run Text X workers lines
+    (bound_stands run (reach X lines) (λ outside text. plainly (rw outside refl) (λ z. absurd (omega (arith, z)))) (of_entries X workers lines))
+    (λ text replies. plain_range (plain_bound (reach X lines) _ (plain_text (closed_session X (reach X lines) replies) (closed_session_plain X (reach X lines) replies) text)))
+    (λ report leads. other_bound (reach X lines) _ _ _ report (other_closed_session X workers lines) leads)
+judged run (Probe X workers) = of_one run (Probe X workers) (λ text replies. refl) (λ text. tt) (judged_bound run _ (LeadsToProbe X) (probed_table X) X (probe_said X))
+judged run (Relations N (Named family)) = of_one run (Relations N (Named family)) (λ text replies. refl) (λ text. tt) (judged_said run _ (family_relations_said family N))
+judged run (Relations N Text) = of_one run (Relations N Text) (λ text replies. refl) (λ text. tt) (judged_text run _ (LeadsToTextRelations N) (text_relations N) (text_relations_said N) tt)
+judged run (Number family key) = of_one run (Number family key) (λ text replies. refl) (λ text. tt) (judged_said run _ (number_said family key))
+judged run (Volume g n) = of_one run (Volume g n) (λ text replies. refl) (λ text. tt) (judged_said run _ (volume_said g n))
+judged run (Bulk seed dim X workers) = of_one run (Bulk seed dim X workers) (λ text replies. refl) (λ text. tt) (judged_said run _ (bulk_said seed dim X))
 
--- ---- the causes
-
-judged : (run : Run) (r : Reading) → Judged run (Leads r run) (IsMeant r) (Wanting r) (TakesMemory r) (λ place. r ≡ Refused place)
-judged run r = record {
-  stands = stands_by run r;
-  ample = λ text report m. subst IsAmple (sym (status_of m.said)) (meant_ample r text m.replies);
-  ten = λ report w. lacks_status r report w.1;
-  taking = λ report w. w.0;
-  word = refused_word run r;
-}
-
-pub causes : (run : Run) → Answers run → HasCauses run
-causes run answers = run_causes.causes answers (judged run (reading_of run.words))
-
-pub complete : (run : Run) → Answers run → IsComplete run
-complete run answers = run_causes.complete answers (judged run (reading_of run.words)) (λ report led w gives. (w.0, (report, wants_by report led w.1, gives)))
-  where
-    wants_by : (report : Report) → Leads (reading_of run.words) run report → Lacks (reading_of run.words) report → IsWanting (reading_of run.words) run report
-    wants_by report led (inl e) = inl e
-    wants_by report led (inr h) = inr (h.0, led, h.1)
+-- memory is wanting, where it is taken
+pub wants_by : (run : Run) (r : Reading) (report : Report) → Leads r run report → Wanting r report → Gives run report → TakesMemory r × ((report : Report) × IsWanting r run report × Gives run report)
+wants_by run r report led w gives = (w.0, (report, elim w.1 [ inl e ↦ inl e | inr h ↦ inr (h.0, led, h.1) ], gives))
 
 -- ---- what is meant is one, but for a session's replies
 

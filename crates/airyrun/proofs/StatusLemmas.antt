@@ -1,32 +1,15 @@
 -- The statuses of the reports that a job leads to where no end fails and memory is not wanting.
-use Rattle.std.proofs.Common.{◌≡◌, inl, inr, ℕ, min, arith, refl, ap, ◌∙◌, [], ◌∷◌}
-use Rattle.std.specs.Prelude.{Option, Some, None, Bool, true, false, cond, List, nat_le}
-use Rattle.airy_math.specs.Tensors.{Tensors}
-use Rattle.airy_math.specs.Planned.{planned}
-use Rattle.airy_math.specs.Jobs.{Structure, planned_tensors, Wp, Bulk}
-use Rattle.amp_plan.specs.Limits.{Limit, Within, PassesBound, PassesCells, PassesNeeds, limit}
-use Rattle.amp_terms.specs.Tables.{full_table, first_without}
+use Rattle.std.proofs.Common.{◌≡◌, inl, inr, ℕ, min, arith, refl, ap, ◌∙◌, [], ◌∷◌, Option, Some, None, Bool, true, false, cond, List, nat_le}
+use Rattle.run_reports.proofs.Names.{Tensors, planned, Structure, planned_tensors, Limit, Within, PassesBound, PassesCells, PassesNeeds, limit, full_table, first_without, Entries, looked_up, Verdict, verdict, Report, bound_refused, making_report, checked_report, verdict_of, plan_report, cells_report, is_bound, making_over, table_report, has_letter, relations_report, text_relations, closed, Line, summed, Key, euler, ℚ, Family}
+use Rattle.airy_math.specs.Jobs.{Wp, Bulk}
 use Rattle.series_law.specs.Check as check
-use Rattle.sparse_tensor.specs.Entries.{Entries, looked_up}
-use Rattle.airy_relations.specs.declared.verdict.Verdict.{Verdict}
-use Rattle.airy_relations.specs.Verdicts.{verdict}
 use Rattle.ask_seats.specs.Replies.{Reply, lines_text}
-use Rattle.run_reports.specs.Report.{Report, bound_refused}
-use Rattle.run_reports.specs.Tables.{making_report, checked_report, verdict_of, plan_report, cells_report}
-use Rattle.run_reports.specs.StructureTables.{is_bound, making_over, table_report}
-use Rattle.run_reports.specs.Structures.{has_letter}
-use Rattle.run_reports.specs.Relations.{relations_report, text_relations, closed}
 use Rattle.airyrun.specs.Relations.{family_tensors, family_over, family_relations}
 use Rattle.ask_seats.specs.Sessions.{Session}
-use Rattle.command_words.specs.declared.line.Line.{Line}
 use Rattle.session_law.specs.Sessions.{session_report}
 use Rattle.airyrun.specs.Sessions.{Wants, at_first, at_grow, wanting_behind}
-use Rattle.run_reports.specs.Forms.{summed}
 use Rattle.airyrun.specs.Numbers.{first_report, valued_report, quotient, quotient_report, euler_of, number_report, parts_report, volume_parts, volume_lacks, volume_report, terms_refused}
 use Rattle.airyrun.specs.Bulks.{changes_report, bulk_report}
-use Rattle.airy_math.specs.Keys.{Key, euler}
-use Rattle.airy_math.specs.Rational.{ℚ}
-use Rattle.airy_math.specs.declared.Family.{Family}
 use Rattle.correlators.specs.Volumes.{Part, counted}
 use Rattle.bulk_tensors.specs.Bulk.{bulk, bulk_refusal}
 use Rattle.run_reports.proofs.StatusLemmas.{IsPlain, plain_table, plain_closed, plain_relations, plain_making, plain_bound, plain_plan}

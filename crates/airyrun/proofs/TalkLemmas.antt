@@ -1,46 +1,22 @@
 -- What a session's parts end with.
-use Rattle.std.proofs.Common.{◌≡◌, ◌≢◌, ◌⊎◌, inl, inr, ℕ, zero, suc, ◌≤◌, List, [], ◌∷◌, ◌++◌, length, append-nil, arith, refl, sym, ap, ◌∙◌, subst}
-use Rattle.airy_io.specs.Causes.{Taking, Rose}
-use Rattle.sparse_tensor.specs.Entries.{Entries, looked_up}
-use Rattle.amp_plan.specs.Plans.{Planning, tensors_of}
-use Rattle.amp_plan.specs.Limits.{Within, limit_of, Tells}
-use Rattle.amp_plan.specs.declared.PlanCause.{PlanCause}
+use Rattle.std.proofs.Common.{◌≡◌, ◌≢◌, ◌⊎◌, inl, inr, ℕ, zero, suc, ◌≤◌, List, [], ◌∷◌, ◌++◌, length, append-nil, arith, refl, sym, ap, ◌∙◌, subst, Bool, true, false, Option, Some, None, Ok, ◌<◌, cond}
+use Rattle.run_reports.proofs.Names.{Taking, Rose, Entries, looked_up, Planning, tensors_of, Within, limit_of, PlanCause, IsReached, reach, Rises, Line, Report, Ends, out_of_memory, bound_refused, Structure, IsSound, planned_tensors, Lettered, BelowDimLaw, OwnTensorsLaw, PlanLaw, JobSessionLaw, SameTablesLaw, Names, MakeErr, Tensors, SameEntries, Verdict, Closed, Differs, Over, verdict, relations_report, of_relations, closed, AreClosed, has_letter, text_structure, EndsBy, plan_report, cause_report, making_report, is_bound, making_over, making_error, ArePlanned}
+use Rattle.amp_plan.specs.Limits.{Tells}
 use Rattle.amp_plan.specs.declared.PlanCause.TheVariants as cause
 use Rattle.ask_seats.specs.Replies.{Reply, lines_text}
 use Rattle.ask_seats.specs.Sessions.{Session, Admitted}
 use Rattle.ask_seats.specs.Asks.{Spoken, CutShort, StopsAtGrow, Fails}
 use Rattle.ask_seats.specs.declared.session_err.SessionErr.TheVariants as err
 use Rattle.std.specs.Io.KnownBytes.{Appends}
-use Rattle.command_words.specs.Bounds.{IsReached, reach}
-use Rattle.command_words.specs.Lines.{Rises}
-use Rattle.command_words.specs.declared.line.Line.{Line}
-use Rattle.run_reports.specs.Report.{Report, Ends, out_of_memory, bound_refused}
-use Rattle.std.specs.Prelude.{Bool, true, false, Option, Some, None, Ok, ◌<◌, cond}
-use Rattle.airy_math.specs.Jobs.{Structure, IsSound, planned_tensors, Text, Lettered}
-use Rattle.airy_math.specs.BelowDim.{BelowDimLaw}
-use Rattle.airy_math.specs.OwnTensors.{OwnTensorsLaw}
-use Rattle.airy_math.specs.Ranks.{PlanLaw}
-use Rattle.series_law.specs.Jobs.{JobSessionLaw}
-use Rattle.series_law.specs.SameTables.{SameTablesLaw}
-use Rattle.named_families.specs.Families.{Names}
-use Rattle.named_families.specs.declared.petersson.MakeErr.{MakeErr}
+use Rattle.airy_math.specs.Jobs.{Text}
 use Rattle.named_families.specs.declared.petersson.MakeErr.TheVariants as make
-use Rattle.airy_math.specs.Tensors.{Tensors, SameEntries}
-use Rattle.airy_relations.specs.declared.verdict.Verdict.{Verdict}
-use Rattle.airy_relations.specs.declared.verdict.Verdict.TheVariants.{Closed, Differs, Over}
-use Rattle.airy_relations.specs.Verdicts.{verdict}
-use Rattle.run_reports.specs.Relations.{relations_report, of_relations, closed}
-use Rattle.run_reports.specs.Structures.{AreClosed, has_letter, text_structure}
 use Rattle.airyrun.specs.Run.{LeadsToClosedSession}
-use Rattle.run_reports.specs.Ends.{EndsBy}
-use Rattle.run_reports.specs.Tables.{plan_report, cause_report, making_report}
-use Rattle.run_reports.specs.StructureTables.{is_bound, making_over, making_error, ArePlanned}
 use Rattle.session_law.specs.Sessions.{answered, stored_session, session_of, session_report}
 use Rattle.airyrun.specs.Sessions.{EndsReplies, Wants, at_first, at_grow, wanting_behind, LeadsToSession}
-use Rattle.run_reports.proofs.ReportLemmas.{told_cause}
+use Rattle.run_reports.proofs.ReportLemmas.{not_whole, told_cause}
 use Rattle.run_reports.proofs.StoredLemmas.{same_limit}
 use Rattle.session_law.proofs.SessionLemmas.{SessionLaws, bounded, same_replies, session-bound, session-stood, shown_law}
-use Rattle.run_reports.proofs.TextLemmas.{own_of}
+use Rattle.run_reports.proofs.TextLemmas.{own_of, fails_by}
 
 module _ (s : Session) (X : ℕ) (lines : List Line) (before now : Taking) where
   pub spoken-ends : Spoken s X lines before.taken now.taken → now.faults ≡ before.faults → EndsReplies s X lines answered before now 0
@@ -120,18 +96,11 @@ memory-ends s X lines old mid now (suc n) result (inr h) first later =
     let k = later (λ e. omega (arith, e)) in
     subst (λ r. EndsReplies s X lines answered old now r) (sym k.1) (subst (λ q. EndsReplies s X lines answered old q 10) (sym k.0) (stopped-ends s X lines old mid (suc n) (λ e. omega (arith, e)) h))
 
-cause_some : (why : PlanCause) → (cause_report why).status ≢ 0
-unfolding cause_report
-cause_some (cause.Bound got) = λ e. omega arith
-cause_some (cause.Cells level) = λ e. omega arith
-cause_some (cause.Edges key) = λ e. omega arith
-cause_some cause.NoMemory = λ e. omega arith
-
 pub cause-ends : (t : Entries) (X crew : ℕ) (lines : List Line) (why : PlanCause) (before now : Taking) (result : ℕ) → Tells (record { tensors = t; bound = X }) why → Ends (cause_report why) before now result
     → EndsReplies (record { tensors = looked_up t; letter = t.letter; crew = crew }) X lines (stored_session t X) before now result
 unfolding limit_of tensors_of stored_session
 cause-ends t X crew lines why before now result tells h =
-    other-ends (record { tensors = looked_up t; letter = t.letter; crew = crew }) X lines before now (stored_session t X) (cause_report why) result (told_cause (record { tensors = t; bound = X }) why (answered []) tells) (cause_some why) h
+    other-ends (record { tensors = looked_up t; letter = t.letter; crew = crew }) X lines before now (stored_session t X) (cause_report why) result (told_cause (record { tensors = t; bound = X }) why (answered []) tells) (not_whole why) h
 
 pub plan-ends : (t : Entries) (X crew : ℕ) (lines : List Line) (p : Planning) (before now : Taking) (result : ℕ) → p ≡ record { tensors = t; bound = X } → limit_of (record { tensors = t; bound = X }) ≡ Within
     → EndsReplies (record { tensors = tensors_of p; letter = p.tensors.letter; crew = crew }) p.bound lines answered before now result
@@ -214,19 +183,10 @@ module _ (t : Entries) (X crew : ℕ) (lines : List Line) (before now : Taking) 
     e.2,
   )
 
-  -- a report that no reply led to
-  no_reply : (report : Report) → report ≡ of_relations t (session_report (text_structure t) X Z []) → report.status ≢ 0 → Ends report before now result → EndsBy (LeadsToClosedSession X crew lines t) before now result
-  no_reply report said some e = (
-    report,
-    record { session = record { replies = []; said = inl said; admitted = λ h. absurd (some h); headline = λ h. absurd (some h) }; own = λ n. own_of own n t; accepted = λ h. absurd (some h) },
-    e,
-  )
-
-  -- and where they fail first
+  -- and where they fail first, with no reply
   pub fails-leads : (v : Verdict) → v ≡ verdict (looked_up t) t.dim → (v ≡ Closed → ⊥) → Ends (relations_report v closed) before now result → EndsBy (LeadsToClosedSession X crew lines t) before now result
-  unfolding relations_report of_relations
-  fails-leads Closed found fails e = absurd (fails refl)
-  fails-leads (Differs rel place left right) found fails e =
-      no_reply (relations_report (Differs rel place left right) closed) (ap (λ v. relations_report v (session_report (text_structure t) X Z [])) found) (λ h. omega arith) e
-  fails-leads (Over rel place) found fails e =
-      no_reply (relations_report (Over rel place) closed) (ap (λ v. relations_report v (session_report (text_structure t) X Z [])) found) (λ h. omega arith) e
+  fails-leads v found fails e = fails_by t (session_report (text_structure t) X Z []) before now result v found fails (λ r said low high. record {
+    session = record { replies = []; said = inl said; admitted = λ h. absurd (omega (arith, h, low)); headline = λ h. absurd (omega (arith, h, low)) };
+    own = λ n. own_of own n t;
+    accepted = λ h. absurd (omega (arith, h, low));
+  }) e

@@ -1,26 +1,11 @@
 -- What a job with a text leads to, from what the reader says and what its tensors lead to.
-use Rattle.std.proofs.Common.{◌≡◌, ◌≢◌, ◌⊎◌, inl, inr, ℕ, refl, sym, ap, subst, true, arith}
-use Rattle.std.specs.Prelude.{IsTrue}
-use Rattle.airy_math.specs.Jobs.{Structure}
-use Rattle.airy_math.specs.OwnTensors.{OwnTensorsLaw}
-use Rattle.sparse_tensor.specs.Entries.{Entries, looked_up}
-use Rattle.sparse_tensor.specs.Grades.{AreSound}
-use Rattle.airy_relations.specs.declared.verdict.Verdict.{Verdict}
-use Rattle.airy_relations.specs.declared.verdict.Verdict.TheVariants.{Closed, Differs, Over}
-use Rattle.airy_relations.specs.Verdicts.{verdict}
-use Rattle.airy_io.specs.Causes.{Taking}
-use Rattle.run_reports.specs.Report.{Report, Ends, EndsOrWants, out_of_memory}
-use Rattle.run_reports.specs.Relations.{relations_report, of_relations, closed}
-use Rattle.run_reports.specs.Tables.{stored_report}
-use Rattle.run_reports.specs.StructureTables.{is_bound, table_report}
-use Rattle.run_reports.specs.Structures.{text_structure, AreClosed}
+use Rattle.std.proofs.Common.{◌≡◌, ◌≢◌, ◌⊎◌, inl, inr, ℕ, refl, sym, ap, subst, true, arith, IsTrue}
+use Rattle.run_reports.proofs.Names.{Structure, OwnTensorsLaw, Entries, looked_up, AreSound, Verdict, Closed, Differs, Over, verdict, Taking, Report, Ends, EndsOrWants, out_of_memory, relations_report, of_relations, closed, stored_report, is_bound, table_report, text_structure, AreClosed, EndsBy, NoOrdersLaw}
 use Rattle.airyrun.specs.Run.{LeadsToTable, LeadsToProbe, LeadsToClosedTable}
-use Rattle.run_reports.specs.Ends.{EndsBy}
 use Rattle.run_reports.proofs.StructureLemmas.{text_stored, text_never}
-use Rattle.airy_exists.specs.Existence.{NoOrdersLaw}
 use Rattle.run_reports.proofs.HeadlineLemmas.{JobLaws}
 use Rattle.run_reports.proofs.TableHeadline.{headline_of, unsolvable_of}
-use Rattle.run_reports.proofs.TextLemmas.{text_sound, own_of}
+use Rattle.run_reports.proofs.TextLemmas.{text_sound, own_of, fails_by}
 
 -- the laws on the table of a text
 pub record TextLaws : Type 0 where
@@ -73,17 +58,9 @@ module _ (t : Entries) (X : ℕ) (w w' : Taking) (status : ℕ) where
 
   -- and where they fail first
   pub fails_ends : OwnTensorsLaw → (v : Verdict) → v ≡ verdict (looked_up t) t.dim → (v ≡ Closed → ⊥) → Ends (relations_report v closed) w w' status → EndsBy (LeadsToClosedTable X t) w w' status
-  unfolding relations_report of_relations
-  fails_ends own Closed found fails e = absurd (fails refl)
-  fails_ends own (Differs rel place left right) found fails e =
-      let said : relations_report (Differs rel place left right) closed ≡ of_relations t next = ap (λ v. relations_report v next) found in (
-        relations_report (Differs rel place left right) closed,
-        record { table = other_leads (of_relations t next) (relations_report (Differs rel place left right) closed) (inl said) (λ h. omega arith) (λ h. omega arith); own = own_of own X t; accepted = λ h. absurd (omega arith); never = λ h. omega (arith, h) },
-        e,
-      )
-  fails_ends own (Over rel place) found fails e =
-      let said : relations_report (Over rel place) closed ≡ of_relations t next = ap (λ v. relations_report v next) found in (
-        relations_report (Over rel place) closed,
-        record { table = other_leads (of_relations t next) (relations_report (Over rel place) closed) (inl said) (λ h. omega arith) (λ h. omega arith); own = own_of own X t; accepted = λ h. absurd (omega arith); never = λ h. omega (arith, h) },
-        e,
-      )
+  fails_ends own v found fails e = fails_by t next w w' status v found fails (λ r said low high. record {
+    table = other_leads (of_relations t next) r (inl said) (λ h. omega (arith, h, low)) (λ h. omega (arith, h, high));
+    own = own_of own X t;
+    accepted = λ h. absurd (omega (arith, h, low));
+    never = λ h. omega (arith, h, high);
+  }) e

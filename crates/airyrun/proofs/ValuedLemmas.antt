@@ -1,32 +1,11 @@
 -- The table that a number is read off: that of stored tensors is the structure's, and in it each planned key has a Value.
-use Rattle.std.proofs.Common.{◌≡◌, ◌⊎◌, inl, inr, ℕ, zero, suc, ◌<◌, refl, sym, ap, ◌∙◌, subst, arith, length, List, [], ◌∷◌, map, get_or}
-use Rattle.std.specs.Prelude.{true, Option, Some, None, Result, Ok, Err, IfOk, IfErr}
-use Rattle.airy_math.specs.Rational.{ℚ}
-use Rattle.airy_math.specs.Keys.{Key}
-use Rattle.airy_math.specs.Jobs.{Structure, planned_tensors}
-use Rattle.airy_math.specs.Tensors.{Tensors, SameEntries}
-use Rattle.airy_math.specs.BelowDim.{BelowDimLaw}
-use Rattle.airy_math.specs.Ranks.{PlanLaw, key_at}
-use Rattle.amp_plan.specs.Limits.{Limit, Within, limit_of, Tells}
-use Rattle.amp_plan.specs.Plans.{Planning, keys_of, tensors_of}
-use Rattle.amp_plan.specs.declared.PlanCause.{PlanCause}
+use Rattle.std.proofs.Common.{◌≡◌, ◌⊎◌, inl, inr, ℕ, zero, suc, ◌<◌, refl, sym, ap, ◌∙◌, subst, arith, length, List, [], ◌∷◌, map, get_or, true, Option, Some, None, Result, Ok, Err, IfOk, IfErr}
+use Rattle.run_reports.proofs.Names.{ℚ, Key, Structure, planned_tensors, Tensors, SameEntries, BelowDimLaw, PlanLaw, key_at, Limit, Within, limit_of, Planning, keys_of, tensors_of, PlanCause, key_text, Outcome, outcomes, full_table, first_without, next_rank, value_at, value_of, value_of_cell, Names, MakeErr, SameTablesLaw, Entries, looked_up, Taking, Report, Ends, bound_refused, out_of_memory, EndsBy, making_report, over_at, plan_report, cause_report, ArePlanned, is_bound, making_over, making_error}
+use Rattle.amp_plan.specs.Limits.{Tells}
 use Rattle.amp_plan.specs.declared.PlanCause.TheVariants as cause
-use Rattle.airy_index.specs.Text.{key_text}
-use Rattle.amp_terms.specs.declared.Outcome.{Outcome}
 use Rattle.amp_terms.specs.declared.Outcome.TheVariants.{Value, Over, Blocked}
-use Rattle.amp_terms.specs.Outcomes.{outcomes}
-use Rattle.amp_terms.specs.Tables.{full_table, first_without, next_rank, value_at, value_of, value_of_cell}
-use Rattle.named_families.specs.Families.{Names}
-use Rattle.named_families.specs.declared.petersson.MakeErr.{MakeErr}
 use Rattle.named_families.specs.declared.petersson.MakeErr.TheVariants as make
-use Rattle.series_law.specs.SameTables.{SameTablesLaw}
 use Rattle.amp_terms.proofs.OutcomeLemmas.{length-outcomes}
-use Rattle.sparse_tensor.specs.Entries.{Entries, looked_up}
-use Rattle.airy_io.specs.Causes.{Taking}
-use Rattle.run_reports.specs.Report.{Report, Ends, bound_refused, out_of_memory}
-use Rattle.run_reports.specs.Ends.{EndsBy}
-use Rattle.run_reports.specs.Tables.{making_report, over_at, plan_report, cause_report}
-use Rattle.run_reports.specs.StructureTables.{ArePlanned, is_bound, making_over, making_error}
 use Rattle.airyrun.specs.Numbers.{first_report, valued_report}
 use Rattle.airyrun.specs.Valued.{IsFilled, IsStored, IsValued, Refuses, plan_valued, stored_valued}
 use Rattle.run_reports.proofs.ReportLemmas.{not_whole}

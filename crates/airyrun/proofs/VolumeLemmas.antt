@@ -1,18 +1,9 @@
 -- The volume that the divisions of a table's Values give is that of the structure, and of every solution.
-use Rattle.std.proofs.Common.{◌≡◌, inl, inr, ℕ, suc, ◌<◌, ◌≤◌, refl, sym, ap, ap₂, ◌∙◌, subst, arith, length, List, [], ◌∷◌, ◌++◌, append_assoc, append-nil}
-use Rattle.std.specs.Prelude.{Bool, true, false, cond, IsTrue, nat_le, codes, Option, Some, None, is_none, option_map, Ok, Err}
+use Rattle.std.proofs.Common.{◌≡◌, inl, inr, ℕ, suc, ◌<◌, ◌≤◌, refl, sym, ap, ap₂, ◌∙◌, subst, arith, length, List, [], ◌∷◌, ◌++◌, append_assoc, append-nil, Bool, true, false, cond, IsTrue, nat_le, codes, Option, Some, None, is_none, option_map, Ok, Err}
+use Rattle.run_reports.proofs.Names.{ℚ, Key, euler, planned, key_at, top_wk, wp_shape, wp_cut, planned_tensors, tensors_at, letter_value, IsSound, Planning, keys_of, tensors_of, rank_at, Outcome, full_table, value_at, looked_up, Taking, Writes, AppendsPrefix, key_text, Report, Ends, bound_refused, out_of_memory, EndsBy, EndsByOrWants, is_bound, has_letter}
 use lib.Dec.{ltb, leb}
-use Rattle.airy_math.specs.Rational.{ℚ}
-use Rattle.airy_math.specs.Keys.{Key, euler}
 use Rattle.airy_math.specs.Sums.{keep}
-use Rattle.airy_math.specs.Planned.{planned}
-use Rattle.airy_math.specs.Ranks.{key_at}
-use Rattle.airy_math.specs.Families.{top_wk, wp_shape, wp_cut}
-use Rattle.airy_math.specs.Jobs.{Wp, planned_tensors, tensors_at, letter_value, IsSound}
-use Rattle.amp_plan.specs.Plans.{Planning, keys_of, tensors_of, rank_at}
-use Rattle.amp_terms.specs.declared.Outcome.{Outcome}
-use Rattle.amp_terms.specs.Tables.{full_table, value_at}
-use Rattle.sparse_tensor.specs.Entries.{looked_up}
+use Rattle.airy_math.specs.Jobs.{Wp}
 use Rattle.correlators.specs.Laws.{VolumeOfSolutions}
 use Rattle.correlators.specs.Volumes.{Part, part_of, parts_of, asked_refusal, coefficient_of, counted, first_lacking, first_of, greatest_sum, is_of, keys_of_pair, refusal, table_refusal, table_terms, volume_terms}
 use Rattle.correlators.specs.Volumes as volumes
@@ -20,15 +11,9 @@ use Rattle.correlators.specs.declared.refusals.CorrErr.{CorrErr}
 use Rattle.correlators.specs.declared.refusals.CorrErr.TheVariants as refused
 use Rattle.correlators.specs.declared.polynomial.Term.{Term}
 use Rattle.std.specs.Io.KnownBytes.{Appends}
-use Rattle.airy_io.specs.Causes.{Taking, Writes, AppendsPrefix}
 use Rattle.airy_io.proofs.Prefixes.{AppendsPrefix-more}
-use Rattle.airy_index.specs.Text.{key_text}
-use Rattle.run_reports.specs.Report.{Report, Ends, bound_refused, out_of_memory}
 use Rattle.run_reports.specs.Report as report
-use Rattle.run_reports.specs.Ends.{EndsBy, EndsByOrWants}
 use Rattle.airyrun.specs.Numbers.{IsDivision, IsQuotients, IsVolume, LeadsToVolume, joint, part_text, parts_report, parts_text, table_lacks, takes_volume, terms_refused, valued_report, volume_lacks, volume_parts, volume_report, volume_text}
-use Rattle.run_reports.specs.StructureTables.{is_bound}
-use Rattle.run_reports.specs.Structures.{has_letter}
 use Rattle.airyrun.specs.Valued.{IsValued, Refuses}
 use Rattle.airyrun.proofs.ValuedLemmas.{cell_there, same_full}
 use Rattle.airyrun.proofs.NumberLemmas.{TableLaws, job_shown, same_plan}

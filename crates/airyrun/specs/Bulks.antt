@@ -42,8 +42,8 @@ bulk_error error.NoMemory = out_of_memory
 unfoldable pub closed_summary : Entries → ℕ → Report
 closed_summary t X = relations_report (verdict (looked_up t) t.dim) (formed_stored Summary t X)
 
--- What `bulk` leads to: its report, or, at a bound within its limits, want of memory. Where the summary is printed the relations hold, and the
--- table that it is of has the headline. Where they hold, no two index orders differ: so it never answers 7.
+-- What `bulk` leads to: its report, or, at a bound within its limits, want of memory. Where the summary is printed the relations hold, and
+-- the table that it is of has the headline. Where they hold, no two index orders differ: so it never answers 7.
 pub record LeadsToBulk (seed dim X : ℕ) (report : Report) : Type 0 where
   pub said : (report ≡ bulk_report seed dim X) ⊎ (IsTrue (is_bound X) × (report ≡ out_of_memory))
   pub headline : report.status ≡ 0 → Headline (bulk_structure seed dim) X (whole_table (bulk_structure seed dim) X)

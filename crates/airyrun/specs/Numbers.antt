@@ -141,15 +141,17 @@ volume_lacks g n = let T = planned_tensors Wp (euler g n) in table_lacks (planne
 unfoldable pub volume_report : ℕ → ℕ → Report
 volume_report g n =
     cond (is_bound (euler g n))
-    (cond (nat_le (counted g n) 100000) (valued_report Wp (euler g n) (parts_report (volume_parts g n) (volume_lacks g n))) (terms_refused (counted g n)))
+    (cond (nat_le (counted g n) 100000) (valued_report Wp (euler g n) (parts_report (volume_parts g n) (volume_lacks g n)))
+    (terms_refused (counted g n)))
     (bound_refused (euler g n))
 
--- The printed polynomial is the volume of every solution f up to 2g - 2 + n, at every dim m from the table's on and with every fraction v in
--- the place of the letter: at each list of n indices its coefficient is that of the term with these powers, and 0 where there is none.
+-- The printed polynomial is the volume of every solution f up to 2g - 2 + n, at every dim m from the table's on and with every fraction v
+-- in the place of the letter: at each list of n indices its coefficient is that of the term with these powers, and 0 where there is none.
 pub record IsVolume (g n : ℕ) (bytes : List ℕ) : Type 0 where
   pub parts : List Part
   pub text : bytes ≡ volume_text parts
-  pub unique : (m : ℕ) (v : ℚ) (f : Series) → IsSolutionOf Wp (euler g n) m v f → (ds : List ℕ) → length ds ≡ n → are_below (tensors_at Wp m v).dim ds ≡ true
+  pub unique : (m : ℕ) (v : ℚ) (f : Series) → IsSolutionOf Wp (euler g n) m v f → (ds : List ℕ) → length ds ≡ n
+      → are_below (tensors_at Wp m v).dim ds ≡ true
       → volume_coefficient (tensors_at Wp m v).dim f (key_of g ds) ≡ coefficient_in v (map (λ d. 2 * d) ds) parts
 
 -- what the divisions of a pair's Values lead to

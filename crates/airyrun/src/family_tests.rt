@@ -1,6 +1,8 @@
-use crate::tests::{Case, assert_told, count_lines, run_words, sink_of, text_of};
+use crate::tests::{Case, are_told, count_lines, run_gated};
 use fill_crew::OpenGate;
+use std::alloc::{AllocError, Global};
 use std::test::Fail;
+use std::thread::Threads;
 
 /// The volumes of Weil and Petersson up to the Euler number 3, as the literature has them: each line is the coefficient of the
 /// product of the `L_k^(2d_k)` times the product of the `(2d_k + 1)!`.
@@ -34,7 +36,8 @@ const CASES: [Case; 11] = [
 
 #[test]
 fn named_structures(rt: HostRuntime) -> Result<(), Fail> {
-    assert_told(&rt, rt.alloc(), &CASES)
+    assert!(rt; are_told(&rt, rt.alloc(), &CASES)?);
+    Ok(())
 }
 
 /// Tables with so many lines.
@@ -44,17 +47,19 @@ const LONG: [(&str, u32); 3] = [
     ("table wp 11", 3680),
 ];
 
+/// Whether each of them is a table of so many lines.
+fn are_long<R: Threads + Sync>(rt: &R, alloc: Global) -> Result<bool, AllocError> {
+    for (line, count) in LONG.iter() {
+        let told = run_gated(rt, alloc, line, b"", &OpenGate, 1 << 22)?;
+        if told.status != 0 || count_lines(told.bytes()) != *count {
+            return Ok(false);
+        }
+    }
+    Ok(true)
+}
+
 #[test]
 fn long_tables(rt: HostRuntime) -> Result<(), Fail> {
-    let alloc = rt.alloc();
-    for (line, count) in LONG.iter() {
-        let sink = sink_of(alloc, 1 << 22, &[])?;
-        let told = run_words(&rt, alloc, line, &mut text_of(alloc, b"")?, &OpenGate, sink)?;
-        assert!(rt;
-            told.status == 0 && count_lines(told.bytes()) == *count,
-            "{}",
-            line
-        );
-    }
+    assert!(rt; are_long(&rt, rt.alloc())?);
     Ok(())
 }

@@ -1,10 +1,9 @@
 use crate::tests::{
     Case, LARGE, ONE_INDEX, ONE_INDEX_3, OPEN, TWO_INDICES, TWO_INDICES_1, WK_3, count_lines,
-    failing_text, first_lines, run_words, sink_of, text_of,
+    failing_text, first_lines, run_gated, run_words, sink_of, text_of,
 };
 use fill_crew::OpenGate;
-use std::alloc::Global;
-use std::process::Abort;
+use std::alloc::{AllocError, Global};
 use std::test::Fail;
 use std::thread::Threads;
 
@@ -59,74 +58,86 @@ const WRITERS: [Case; 17] = [
     ),
 ];
 
-/// Asserts that a sink that fails at a call has the lines before it, and ends the run with 9; and that a call behind the last changes
-/// nothing.
-fn assert_cut<R: Threads + Sync + Abort>(rt: &R, alloc: Global, case: &Case) -> Result<(), Fail> {
+/// Whether a sink that fails at a call has the lines before it, and ends the run with 9; and, behind the last call, the run is as ever.
+fn is_cut<R: Threads + Sync>(
+    rt: &R,
+    alloc: Global,
+    case: &Case,
+    call: u32,
+) -> Result<bool, AllocError> {
     let (line, text, status, bytes) = *case;
-    let count = count_lines(bytes);
-    for call in 0..=count {
-        let mut source = text_of(alloc, text)?;
-        let sink = sink_of(alloc, 1000, &[call])?;
-        let told = run_words(rt, alloc, line, &mut source, &OpenGate, sink)?;
-        let status = if call < count { 9 } else { status };
-        assert!(rt;
-            told.is(status, first_lines(bytes, call)),
-            "{} at {}",
-            line,
-            call
-        );
+    let status = if call < count_lines(bytes) { 9 } else { status };
+    let mut source = text_of(alloc, text)?;
+    let sink = sink_of(alloc, 1000, &[call])?;
+    let told = run_words(rt, alloc, line, &mut source, &OpenGate, sink)?;
+    Ok(told.is(status, first_lines(bytes, call)))
+}
+
+/// Whether each case is so at each call.
+fn are_cut<R: Threads + Sync>(rt: &R, alloc: Global, cases: &[Case]) -> Result<bool, AllocError> {
+    for case in cases.iter() {
+        for call in 0..=count_lines(case.3) {
+            if !is_cut(rt, alloc, case, call)? {
+                return Ok(false);
+            }
+        }
     }
-    Ok(())
+    Ok(true)
 }
 
 #[test]
 fn sinks_that_fail_at_each_call(rt: HostRuntime) -> Result<(), Fail> {
-    for case in WRITERS.iter() {
-        assert_cut(&rt, rt.alloc(), case)?;
-    }
+    assert!(rt; are_cut(&rt, rt.alloc(), &WRITERS)?);
     Ok(())
+}
+
+/// Whether a sink of each room below 20 has the first bytes, and ends the run with 9.
+fn are_narrow<R: Threads + Sync>(rt: &R, alloc: Global) -> Result<bool, AllocError> {
+    for room in 0..20usize {
+        let told = run_gated(rt, alloc, "table wk 2", b"", &OpenGate, room)?;
+        if WK_3.get(..room) != Some(told.bytes()) || told.status != 9 {
+            return Ok(false);
+        }
+    }
+    Ok(true)
 }
 
 #[test]
 fn a_sink_without_room(rt: HostRuntime) -> Result<(), Fail> {
-    let alloc = rt.alloc();
-    for room in 0..20usize {
-        let sink = sink_of(alloc, room, &[])?;
-        let told = run_words(
-            &rt,
-            alloc,
-            "table wk 2",
-            &mut text_of(alloc, b"")?,
-            &OpenGate,
-            sink,
-        )?;
-        let bytes = WK_3.get(..room).ok_or("room")?;
-        assert!(rt; told.is(9, bytes), "{}", room);
-    }
+    assert!(rt; are_narrow(&rt, rt.alloc())?);
     Ok(())
 }
 
-#[test]
-fn sources_that_fail(rt: HostRuntime) -> Result<(), Fail> {
-    let alloc = rt.alloc();
+/// Whether a source that fails at this call, the last of so many, ends the run with 8.
+fn is_fault<R: Threads + Sync>(
+    rt: &R,
+    alloc: Global,
+    line: &str,
+    (call, calls): (u32, u32),
+) -> Result<bool, AllocError> {
+    let mut source = failing_text(alloc, OPEN, call)?;
+    let sink = sink_of(alloc, 200, &[])?;
+    let told = run_words(rt, alloc, line, &mut source, &OpenGate, sink)?;
+    Ok(told.is(8, b"refused: read fault\n") && source.calls == calls)
+}
+
+/// Whether each job with a text ends so.
+fn are_faults<R: Threads + Sync>(rt: &R, alloc: Global) -> Result<bool, AllocError> {
     for line in [
         "table - 1",
         "probe 1",
         "relations 1 -",
         "session - 1 finish",
     ] {
-        for call in [0u32, 1] {
-            let mut source = failing_text(alloc, OPEN, call)?;
-            let sink = sink_of(alloc, 200, &[])?;
-            let told = run_words(&rt, alloc, line, &mut source, &OpenGate, sink)?;
-            assert!(rt;
-                told.is(8, b"refused: read fault\n"),
-                "{} at {}",
-                line,
-                call
-            );
-            assert!(rt; source.calls == call + 1);
+        if !is_fault(rt, alloc, line, (0, 1))? || !is_fault(rt, alloc, line, (1, 2))? {
+            return Ok(false);
         }
     }
+    Ok(true)
+}
+
+#[test]
+fn sources_that_fail(rt: HostRuntime) -> Result<(), Fail> {
+    assert!(rt; are_faults(&rt, rt.alloc())?);
     Ok(())
 }

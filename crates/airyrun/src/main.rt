@@ -1,8 +1,6 @@
 //! The program: tables of the amplitudes of quantum Airy structures.
 #![tactic(auto)]
 
-ghost use Rattle.std.specs.Prelude.{◌≡◌, ◌⊎◌, IfErr};
-
 mod bulks;
 mod families;
 #[cfg(test)]
@@ -36,9 +34,9 @@ mod word_tests;
 use airy_io::{StdSink, StdSource};
 pub use fill_crew::{Gate, OpenGate, StopAfter};
 pub use laws::{meant_is_one, table_steps};
+use run_reports::words_given;
 pub use session_law::{same_replies, session_shown};
 use std::process::ExitCode;
-use std::{env, io};
 pub use top::{run, serve};
 
 /// Hands the words behind the program's name to `serve`, with standard input and output, and ends with its status. Where
@@ -57,17 +55,4 @@ fn main(rt: HostRuntime) -> ExitCode {
         faults: 0,
     };
     serve(&rt, rt.alloc(), &words, &mut source, &mut sink)
-}
-
-/// The words behind the program's name, or the status to end with.
-fn words_given(rt: &HostRuntime) -> Result<Vec<String>, u8>
-    ensures status { IfErr result (λ s. (s ≡ 1) ⊎ (s ≡ 10)) }
-{
-    let mut args = match env::args(rt) {
-        Ok(args) => args,
-        Err(error) if error.kind() == io::ErrorKind::OutOfMemory => return Err(10),
-        Err(_) => return Err(1),
-    };
-    let _name = args.next();
-    args.collect(rt.alloc()).map_err(|_| 10)
 }

@@ -1,5 +1,7 @@
-use crate::tests::{Case, assert_told, run_over};
+use crate::tests::{Case, Told, are_told, run_over};
+use std::alloc::{AllocError, Global};
 use std::test::Fail;
+use std::thread::Threads;
 
 /// Intersection numbers and Theta numbers: multinomials in genus 0, `1/(24^g g!)` at one index, a string and a dilaton equation, and what
 /// the literature prints; then the refusals.
@@ -92,21 +94,43 @@ const BULKS: [Case; 6] = [
 ];
 
 #[test]
-fn numbers_volumes_and_large_structures(rt: HostRuntime) -> Result<(), Fail> {
-    assert_told(&rt, rt.alloc(), &NUMBERS)?;
-    assert_told(&rt, rt.alloc(), &VOLUMES)?;
-    assert_told(&rt, rt.alloc(), &BULKS)
+fn numbers_of_families(rt: HostRuntime) -> Result<(), Fail> {
+    assert!(rt; are_told(&rt, rt.alloc(), &NUMBERS)?);
+    Ok(())
 }
 
-/// The summary of a large structure is the same for every number of workers.
+#[test]
+fn volumes_of_pairs(rt: HostRuntime) -> Result<(), Fail> {
+    assert!(rt; are_told(&rt, rt.alloc(), &VOLUMES)?);
+    Ok(())
+}
+
+#[test]
+fn large_structures(rt: HostRuntime) -> Result<(), Fail> {
+    assert!(rt; are_told(&rt, rt.alloc(), &BULKS)?);
+    Ok(())
+}
+
+/// Whether this is the summary of 1772 cells.
+fn is_summary(told: &Told) -> bool {
+    told.status == 0
+        && told.bytes().starts_with(b"cells 1772\n")
+        && told.bytes().ends_with(b"\nsolution\n")
+}
+
+/// Whether the summary of a large structure is the same for every number of workers.
+fn is_steady<R: Threads + Sync>(rt: &R, alloc: Global) -> Result<bool, AllocError> {
+    let alone = run_over(rt, alloc, "bulk 1 4 8 --workers=0", b"")?;
+    if !is_summary(&alone)
+        || !run_over(rt, alloc, "bulk 1 4 8 --workers=1", b"")?.is(0, alone.bytes())
+    {
+        return Ok(false);
+    }
+    Ok(run_over(rt, alloc, "bulk 1 4 8 --workers=8", b"")?.is(0, alone.bytes()))
+}
+
 #[test]
 fn a_large_structure_by_any_crew(rt: HostRuntime) -> Result<(), Fail> {
-    let alone = run_over(&rt, rt.alloc(), "bulk 1 4 8 --workers=0", b"")?;
-    assert!(rt; alone.status == 0 && alone.bytes().starts_with(b"cells 1772\n"));
-    assert!(rt; alone.bytes().ends_with(b"\nsolution\n"));
-    for line in ["bulk 1 4 8 --workers=1", "bulk 1 4 8 --workers=8"] {
-        let told = run_over(&rt, rt.alloc(), line, b"")?;
-        assert!(rt; told.is(0, alone.bytes()), "{}", line);
-    }
+    assert!(rt; is_steady(&rt, rt.alloc())?);
     Ok(())
 }

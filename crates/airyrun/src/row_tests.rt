@@ -1,13 +1,14 @@
 ghost use Rattle.std.specs.Prelude.{◌<◌};
 
 use crate::tests::{
-    Case, LARGE, ONE_INDEX, ONE_INDEX_3, OPEN, TWO_INDICES, TWO_INDICES_1, WK_3, assert_told,
+    Case, LARGE, ONE_INDEX, ONE_INDEX_3, OPEN, TWO_INDICES, TWO_INDICES_1, WK_3, are_told,
     run_over, run_words, sink_of,
 };
 use airy_io::SlowSource;
 use fill_crew::OpenGate;
 use std::alloc::{AllocError, Global};
 use std::test::Fail;
+use std::thread::Threads;
 
 /// The tables of named structures.
 const TABLES: [Case; 8] = [
@@ -33,7 +34,8 @@ const TABLES: [Case; 8] = [
 
 #[test]
 fn tables_of_named_structures(rt: HostRuntime) -> Result<(), Fail> {
-    assert_told(&rt, rt.alloc(), &TABLES)
+    assert!(rt; are_told(&rt, rt.alloc(), &TABLES)?);
+    Ok(())
 }
 
 /// Two copies of the structure with one index, up to 2.
@@ -72,17 +74,24 @@ const TEXTS: [Case; 8] = [
 
 #[test]
 fn tables_of_texts(rt: HostRuntime) -> Result<(), Fail> {
-    assert_told(&rt, rt.alloc(), &TEXTS)?;
-    let alloc = rt.alloc();
-    for line in ["table - 3", "probe 3"] {
-        let mut slow = SlowSource {
-            bytes: Vec::from_slice(alloc, ONE_INDEX)?,
-            at: 0,
-        };
-        let sink = sink_of(alloc, 200, &[])?;
-        let told = run_words(&rt, alloc, line, &mut slow, &OpenGate, sink)?;
-        assert!(rt; told.is(0, ONE_INDEX_3), "{}", line);
-    }
+    assert!(rt; are_told(&rt, rt.alloc(), &TEXTS)?);
+    Ok(())
+}
+
+/// Whether a source that gives one byte at a time leads to the same.
+fn is_slow<R: Threads + Sync>(rt: &R, alloc: Global, line: &str) -> Result<bool, AllocError> {
+    let mut slow = SlowSource {
+        bytes: Vec::from_slice(alloc, ONE_INDEX)?,
+        at: 0,
+    };
+    let sink = sink_of(alloc, 200, &[])?;
+    Ok(run_words(rt, alloc, line, &mut slow, &OpenGate, sink)?.is(0, ONE_INDEX_3))
+}
+
+#[test]
+fn tables_of_a_slow_text(rt: HostRuntime) -> Result<(), Fail> {
+    let table = is_slow(&rt, rt.alloc(), "table - 3")?;
+    assert!(rt; table && is_slow(&rt, rt.alloc(), "probe 3")?);
     Ok(())
 }
 
@@ -155,12 +164,24 @@ const CUTS: [(usize, u8, &[u8]); 5] = [
 
 #[test]
 fn refused_texts(rt: HostRuntime) -> Result<(), Fail> {
-    assert_told(&rt, rt.alloc(), &REFUSED_TEXTS)?;
+    assert!(rt; are_told(&rt, rt.alloc(), &REFUSED_TEXTS)?);
+    Ok(())
+}
+
+/// Whether each of the cut texts leads to its status and bytes.
+fn are_cut_texts<R: Threads + Sync>(rt: &R, alloc: Global) -> Result<bool, AllocError> {
     for (length, status, bytes) in CUTS.iter() {
-        let text = ONE_INDEX.get(..*length).ok_or("length")?;
-        let told = run_over(&rt, rt.alloc(), "table - 3", text)?;
-        assert!(rt; told.is(*status, bytes), "{}", length);
+        let text = ONE_INDEX.get(..*length).unwrap_or(b"");
+        if !run_over(rt, alloc, "table - 3", text)?.is(*status, bytes) {
+            return Ok(false);
+        }
     }
+    Ok(true)
+}
+
+#[test]
+fn cut_texts(rt: HostRuntime) -> Result<(), Fail> {
+    assert!(rt; are_cut_texts(&rt, rt.alloc())?);
     Ok(())
 }
 
@@ -173,20 +194,39 @@ fn long_text(alloc: Global, length: usize) -> Result<Vec<u8>, AllocError> {
     Ok(text)
 }
 
+/// Whether a text leads to this status and these bytes, in a table and without its relations.
+fn leads_to<R: Threads + Sync>(
+    rt: &R,
+    alloc: Global,
+    text: &[u8],
+    status: u8,
+    bytes: &[u8],
+) -> Result<bool, AllocError> {
+    if !run_over(rt, alloc, "table - 1", text)?.is(status, bytes) {
+        return Ok(false);
+    }
+    Ok(run_over(rt, alloc, "probe 1", text)?.is(status, bytes))
+}
+
 #[test]
 fn the_longest_text(rt: HostRuntime) -> Result<(), Fail> {
-    let alloc = rt.alloc();
-    let notes = vec![in alloc; b'#'; 1_048_577]?;
-    let long = long_text(alloc, 1_048_576)?;
-    let longer = long_text(alloc, 1_048_577)?;
-    for line in ["table - 1", "probe 1"] {
-        let told = run_over(&rt, alloc, line, &notes)?;
-        assert!(rt; told.is(3, b"refused: text too long\n"), "{}", line);
-        let told = run_over(&rt, alloc, line, &longer)?;
-        assert!(rt; told.is(3, b"refused: text too long\n"), "{}", line);
-        let told = run_over(&rt, alloc, line, &long)?;
-        assert!(rt; told.is(0, b"0,3 [0 0 0] 0\n1,1 [0] 1/8\n"), "{}", line);
-    }
+    let text = long_text(rt.alloc(), 1_048_576)?;
+    let bytes = b"0,3 [0 0 0] 0\n1,1 [0] 1/8\n";
+    assert!(rt; leads_to(&rt, rt.alloc(), &text, 0, bytes)?);
+    Ok(())
+}
+
+#[test]
+fn a_longer_text(rt: HostRuntime) -> Result<(), Fail> {
+    let text = long_text(rt.alloc(), 1_048_577)?;
+    assert!(rt; leads_to(&rt, rt.alloc(), &text, 3, b"refused: text too long\n")?);
+    Ok(())
+}
+
+#[test]
+fn a_longer_note(rt: HostRuntime) -> Result<(), Fail> {
+    let notes = vec![in rt.alloc(); b'#'; 1_048_577]?;
+    assert!(rt; leads_to(&rt, rt.alloc(), &notes, 3, b"refused: text too long\n")?);
     Ok(())
 }
 
@@ -254,7 +294,8 @@ const CHECKS: [Case; 16] = [
 
 #[test]
 fn relations_and_pivots_checked(rt: HostRuntime) -> Result<(), Fail> {
-    assert_told(&rt, rt.alloc(), &CHECKS)
+    assert!(rt; are_told(&rt, rt.alloc(), &CHECKS)?);
+    Ok(())
 }
 
 /// Plans beyond a limit, and the first overflow of the longest table.
@@ -309,9 +350,14 @@ fn full_text(alloc: Global) -> Result<Vec<u8>, AllocError> {
 
 #[test]
 fn limits_of_plans(rt: HostRuntime) -> Result<(), Fail> {
-    assert_told(&rt, rt.alloc(), &LIMITS)?;
-    let alloc = rt.alloc();
-    let told = run_over(&rt, alloc, "probe 6", &full_text(alloc)?)?;
+    assert!(rt; are_told(&rt, rt.alloc(), &LIMITS)?);
+    Ok(())
+}
+
+#[test]
+fn the_limit_of_needs(rt: HostRuntime) -> Result<(), Fail> {
+    let text = full_text(rt.alloc())?;
+    let told = run_over(&rt, rt.alloc(), "probe 6", &text)?;
     assert!(rt; told.is(5, b"refused: needs at 1,5 [4 4 4 7 7]\n"));
     Ok(())
 }

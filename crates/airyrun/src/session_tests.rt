@@ -1,6 +1,8 @@
-use crate::tests::{Case, LARGE, ONE_INDEX, assert_told, run_over, run_words, sink_of, text_of};
-use fill_crew::StopAfter;
+use crate::tests::{Case, LARGE, ONE_INDEX, are_told, run_gated};
+use fill_crew::{Gate, OpenGate, StopAfter};
+use std::alloc::{AllocError, Global};
 use std::test::Fail;
+use std::thread::Threads;
 
 /// Sessions whose replies are determined: no worker fills, or all asks stand behind `finish`, or the reply rests on the key alone.
 const SESSIONS: [Case; 9] = [
@@ -103,17 +105,20 @@ const GROWTHS: [Case; 9] = [
 
 #[test]
 fn a_growth_that_is_refused(rt: HostRuntime) -> Result<(), Fail> {
-    assert_told(&rt, rt.alloc(), &REFUSED_GROWTH)
+    assert!(rt; are_told(&rt, rt.alloc(), &REFUSED_GROWTH)?);
+    Ok(())
 }
 
 #[test]
 fn sessions_that_grow(rt: HostRuntime) -> Result<(), Fail> {
-    assert_told(&rt, rt.alloc(), &GROWTHS)
+    assert!(rt; are_told(&rt, rt.alloc(), &GROWTHS)?);
+    Ok(())
 }
 
 #[test]
 fn sessions_that_are_determined(rt: HostRuntime) -> Result<(), Fail> {
-    assert_told(&rt, rt.alloc(), &SESSIONS)
+    assert!(rt; are_told(&rt, rt.alloc(), &SESSIONS)?);
+    Ok(())
 }
 
 /// A script for a text with a number out of range, and its replies.
@@ -123,32 +128,41 @@ const LARGE_SCRIPT: &str =
 const LARGE_REPLIES: &[u8] =
     b"85070591730234615865843651857942052864\nover\nrests on 0,4 [0 0 0 0]\n0\nno such index\n";
 
+/// The line of that script with so many workers.
+fn large_line(alloc: Global, crew: &str) -> Result<String, AllocError> {
+    let mut line = String::from_str(alloc, "session - 3 --workers=")?;
+    line.push_str(crew)?;
+    line.push_str(" ")?;
+    line.push_str(LARGE_SCRIPT)?;
+    Ok(line)
+}
+
+/// Whether the replies are these for every crew, with this gate.
+fn are_large<R: Threads + Sync, G: Gate + Sync>(
+    rt: &R,
+    alloc: Global,
+    gate: &G,
+) -> Result<bool, AllocError> {
+    for crew in ["0", "1", "2", "8", "16"] {
+        let line = large_line(alloc, crew)?;
+        if !run_gated(rt, alloc, line.as_str(), LARGE, gate, 200)?.is(0, LARGE_REPLIES) {
+            return Ok(false);
+        }
+    }
+    Ok(true)
+}
+
 #[test]
 fn sessions_of_every_crew(rt: HostRuntime) -> Result<(), Fail> {
-    let alloc = rt.alloc();
-    for crew in ["0", "1", "2", "8", "16"] {
-        let mut line = String::from_str(alloc, "session - 3 --workers=")?;
-        line.push_str(crew)?;
-        line.push_str(" ")?;
-        line.push_str(LARGE_SCRIPT)?;
-        let open = run_over(&rt, alloc, line.as_str(), LARGE)?;
-        assert!(rt; open.is(0, LARGE_REPLIES), "{}", crew);
-        let mut source = text_of(alloc, LARGE)?;
-        let sink = sink_of(alloc, 200, &[])?;
-        let gate = StopAfter { cells: 1 };
-        let closed = run_words(&rt, alloc, line.as_str(), &mut source, &gate, sink)?;
-        assert!(rt; closed.is(0, LARGE_REPLIES), "{}", crew);
-    }
+    let open = are_large(&rt, rt.alloc(), &OpenGate)?;
+    assert!(rt; open && are_large(&rt, rt.alloc(), &StopAfter { cells: 1 })?);
     Ok(())
 }
 
 #[test]
 fn a_gate_that_lets_none_fill(rt: HostRuntime) -> Result<(), Fail> {
-    let alloc = rt.alloc();
     let line = "session wk 1 --workers=1 ask:0:0,0,0 finish ask:0:0,0,0";
-    let sink = sink_of(alloc, 200, &[])?;
-    let gate = StopAfter { cells: 0 };
-    let told = run_words(&rt, alloc, line, &mut text_of(alloc, b"")?, &gate, sink)?;
+    let told = run_gated(&rt, rt.alloc(), line, b"", &StopAfter { cells: 0 }, 200)?;
     assert!(rt; told.is(0, b"not yet\n1\n"));
     Ok(())
 }

@@ -2,8 +2,6 @@ use crate::top::run;
 use airy_io::{MemSink, MemSource, Source, SteadySource};
 use fill_crew::{Gate, OpenGate};
 use std::alloc::{AllocError, Global};
-use std::process::Abort;
-use std::test::Fail;
 use std::thread::Threads;
 
 /// The words of a run, parted by blanks; what its source gives; the status that it answers; what it writes.
@@ -116,6 +114,18 @@ impl Told {
     }
 }
 
+/// The status of a run.
+fn status_of<R: Threads + Sync, S: Source, G: Gate + Sync>(
+    rt: &R,
+    alloc: Global,
+    words: &[String],
+    source: &mut S,
+    gate: &G,
+    sink: &mut MemSink,
+) -> u8 {
+    run(rt, alloc, words, source, sink, gate)
+}
+
 /// Runs the words of a line.
 pub(crate) fn run_words<R: Threads + Sync, S: Source, G: Gate + Sync>(
     rt: &R,
@@ -126,8 +136,28 @@ pub(crate) fn run_words<R: Threads + Sync, S: Source, G: Gate + Sync>(
     mut sink: MemSink,
 ) -> Result<Told, AllocError> {
     let words = words_of(alloc, line)?;
-    let status = run(rt, alloc, &words, source, &mut sink, gate);
+    let status = status_of(rt, alloc, &words, source, gate, &mut sink);
     Ok(Told { status, sink })
+}
+
+/// Runs the words of a line over a text, into so much room, with this gate.
+pub(crate) fn run_gated<R: Threads + Sync, G: Gate + Sync>(
+    rt: &R,
+    alloc: Global,
+    line: &str,
+    text: &[u8],
+    gate: &G,
+    room: usize,
+) -> Result<Told, AllocError> {
+    let mut source = text_of(alloc, text)?;
+    run_words(
+        rt,
+        alloc,
+        line,
+        &mut source,
+        gate,
+        sink_of(alloc, room, &[])?,
+    )
 }
 
 /// Runs the words of a line over a text, into ample room, with the open gate.
@@ -137,21 +167,27 @@ pub(crate) fn run_over<R: Threads + Sync>(
     line: &str,
     text: &[u8],
 ) -> Result<Told, AllocError> {
-    let sink = sink_of(alloc, 1 << 16, &[])?;
-    run_words(rt, alloc, line, &mut text_of(alloc, text)?, &OpenGate, sink)
+    run_gated(rt, alloc, line, text, &OpenGate, 1 << 16)
 }
 
-/// Runs each case, and asserts that it answers the status and writes the bytes.
-pub(crate) fn assert_told<R: Threads + Sync + Abort>(
+/// Whether a case answers its status and writes its bytes.
+fn is_told<R: Threads + Sync>(rt: &R, alloc: Global, case: &Case) -> Result<bool, AllocError> {
+    let (line, text, status, bytes) = *case;
+    Ok(run_over(rt, alloc, line, text)?.is(status, bytes))
+}
+
+/// Whether each of the cases does.
+pub(crate) fn are_told<R: Threads + Sync>(
     rt: &R,
     alloc: Global,
     cases: &[Case],
-) -> Result<(), Fail> {
-    for (line, text, status, bytes) in cases.iter() {
-        let told = run_over(rt, alloc, line, text)?;
-        assert!(rt; told.is(*status, bytes), "{}", line);
+) -> Result<bool, AllocError> {
+    for case in cases.iter() {
+        if !is_told(rt, alloc, case)? {
+            return Ok(false);
+        }
     }
-    Ok(())
+    Ok(true)
 }
 
 /// The first lines of a text.

@@ -12,9 +12,12 @@ use airy_exists::no_orders;
 use airy_io::{Sink, Source};
 use airy_math::{below_dim, own_tensors, planned_once};
 use airy_relations::{Verdict, check};
-use command_words::{Left, greatest_bound, is_bound};
+use command_words::{Left, greatest_bound};
 use fill_crew::Gate;
-use run_reports::{Form, print_stored, refuse_bound, refuse_text, say_relations, say_verdict};
+use run_reports::{
+    Form, print_stored, read_bounded, refuse_bound, refuse_input, refuse_text, say_relations,
+    say_verdict,
+};
 use series_law::{job_checked, job_session, job_uniqueness, same_tables, widened_relations};
 use sparse_tensor::Tensors;
 use std::alloc::Global;
@@ -34,12 +37,9 @@ pub(crate) fn probe<R: Threads + Sync, S: Source, W: Sink, G: Gate + Sync>(
     requires { workers ≤ 16 }
     ensures { EndsWithBound bound (LeadsToProbe bound) (S.state src.old) (S.state src.new) (W.state out.old) (W.state out.new) result }
 {
-    if !is_bound(bound) {
-        return refuse_bound(out, bound);
-    }
-    match read_tensors(alloc, src) {
+    match read_bounded(alloc, bound, src) {
         Ok(tensors) => print_text(rt, alloc, tensors, bound as u8, workers, gate, out),
-        Err(refusal) => refuse_text(out, refusal),
+        Err(refusal) => refuse_input(out, refusal),
     }
 }
 
@@ -57,12 +57,9 @@ pub(crate) fn table_of_text<R: Threads + Sync, S: Source, W: Sink, G: Gate + Syn
     ensures { EndsWithBound bound (LeadsToClosedTable bound)
         (S.state src.old) (S.state src.new) (W.state out.old) (W.state out.new) result }
 {
-    if !is_bound(bound) {
-        return refuse_bound(out, bound);
-    }
-    match read_tensors(alloc, src) {
+    match read_bounded(alloc, bound, src) {
         Ok(tensors) => print_closed(rt, alloc, tensors, bound as u8, workers, gate, out),
-        Err(refusal) => refuse_text(out, refusal),
+        Err(refusal) => refuse_input(out, refusal),
     }
 }
 

@@ -32,7 +32,8 @@ pub(crate) fn valued_table<W: Sink>(
     requires within { IsTrue (is_bound bound) }
     ensures valued { IfOk result (λ valued. IsValued (structure_of family) bound valued.plan valued.table) }
     ensures kept { OnOk result (W.state out.new ≡ W.state out.old) }
-    ensures refused { IfErr result (λ status. EndsBy (Refuses (valued_report (structure_of family) bound)) (W.state out.old) (W.state out.new) status) }
+    ensures refused { IfErr result
+        (λ status. EndsBy (Refuses (valued_report (structure_of family) bound)) (W.state out.old) (W.state out.new) status) }
 {
     planned_once();
     below_dim();

@@ -1,6 +1,5 @@
-use crate::tests::{Case, ONE_INDEX, ONE_INDEX_3, WK_3, assert_told, run_over};
-use std::alloc::Global;
-use std::process::Abort;
+use crate::tests::{Case, ONE_INDEX, ONE_INDEX_3, WK_3, are_told, run_over};
+use std::alloc::{AllocError, Global};
 use std::test::Fail;
 use std::thread::Threads;
 
@@ -96,25 +95,42 @@ const REFUSED_SCRIPTS: [(&str, u8); 40] = [
     ),
 ];
 
-/// Asserts that the words are refused by these numbers, each of one digit.
-fn assert_refused<R: Threads + Sync + Abort>(
+/// Whether the words are refused by this number of one digit.
+fn is_refused<R: Threads + Sync>(
+    rt: &R,
+    alloc: Global,
+    line: &str,
+    number: u8,
+) -> Result<bool, AllocError> {
+    let mut written = *b"refused: word 0\n";
+    written[14] = b'0'.wrapping_add(number);
+    Ok(run_over(rt, alloc, line, b"")?.is(2, &written))
+}
+
+/// Whether each of them is refused by its number.
+fn are_refused<R: Threads + Sync>(
     rt: &R,
     alloc: Global,
     cases: &[(&str, u8)],
-) -> Result<(), Fail> {
+) -> Result<bool, AllocError> {
     for (line, number) in cases.iter() {
-        let told = run_over(rt, alloc, line, b"")?;
-        let mut written = *b"refused: word 0\n";
-        written[14] = b'0'.wrapping_add(*number);
-        assert!(rt; told.is(2, &written), "{}", line);
+        if !is_refused(rt, alloc, line, *number)? {
+            return Ok(false);
+        }
     }
-    Ok(())
+    Ok(true)
 }
 
 #[test]
 fn refused_words(rt: HostRuntime) -> Result<(), Fail> {
-    assert_refused(&rt, rt.alloc(), &REFUSED)?;
-    assert_refused(&rt, rt.alloc(), &REFUSED_SCRIPTS)
+    assert!(rt; are_refused(&rt, rt.alloc(), &REFUSED)?);
+    Ok(())
+}
+
+#[test]
+fn refused_scripts(rt: HostRuntime) -> Result<(), Fail> {
+    assert!(rt; are_refused(&rt, rt.alloc(), &REFUSED_SCRIPTS)?);
+    Ok(())
 }
 
 /// Words with options in every place.
@@ -145,5 +161,6 @@ const ACCEPTED: [Case; 12] = [
 
 #[test]
 fn options_at_every_place(rt: HostRuntime) -> Result<(), Fail> {
-    assert_told(&rt, rt.alloc(), &ACCEPTED)
+    assert!(rt; are_told(&rt, rt.alloc(), &ACCEPTED)?);
+    Ok(())
 }

@@ -1,29 +1,12 @@
--- A walk along the chain of an excess meets all products of a list whose part has one excess.
-use Rattle.std.proofs.Common.{◌≡◌, ℕ, suc, ◌-◌, ◌<◌, ◌≤◌, ◌^◌, Bool, true, false, List, [], ◌∷◌, ◌++◌, length, map, append_assoc, append-nil, refl, sym, ap, subst, ◌∙◌, arith, lit≤}
-use Rattle.std.specs.Prelude.{ℤ, cond, nat_eq}
-use Rattle.std.specs.List.{AllByRecursion}
-use Rattle.std.proofs.lemmas.Int.{ints}
+-- A walk over listed splits, or along the chain of one excess, meets all products.
+use Rattle.std.proofs.Common.{Option, ◌≡◌, ℕ, suc, ◌-◌, ◌<◌, ◌≤◌, ◌^◌, Bool, true, false, List, [], ◌∷◌, ◌++◌, length, map, append_assoc, append-nil, refl, sym, ap, subst, ◌∙◌, arith, lit≤, ℤ, cond, nat_eq, Some, None, length-append, not, eq-eqb}
+use Rattle.amp_plan.proofs.Words.{AllByRecursion, ints, pow-le-pow_right, total, key_of, insert, Split, splits, each, all_splits, whole_length, splits_law, looked_up, from_first, first-within, Planning, tensors_of, RankedTerm, Twice, NameAllowed, Takes, HasRoom, split_part, IsMeasured, choice_part, IsShare, FitsShare, IsChosen, CanGoOn, chain, listed_of, numbers_of, all_listed, Share, Listed, false≢true}
 use Rattle.std.proofs.lemmas.List.{length-map}
-use native.Mathlib.Nat.{pow-le-pow_right}
-use Rattle.airy_math.specs.Keys.{total, key_of, insert}
 use Rattle.airy_math.specs.Rational.{whole}
-use Rattle.airy_math.specs.Splits.{Split, splits}
-use Rattle.airy_math.specs.Sums.{each}
-use Rattle.airy_index.specs.Choices.{all_splits, whole_length}
-use Rattle.airy_index.proofs.SplitLaw.{splits_law}
-use Rattle.sparse_tensor.specs.Entries.{looked_up}
-use Rattle.item_chains.specs.Chains.{from_first}
-use Rattle.item_chains.proofs.ChainLemmas.{first-within}
-use Rattle.amp_plan.specs.Plans.{Planning, tensors_of}
-use Rattle.amp_plan.specs.Ranked.{RankedTerm, Twice, NameAllowed, Takes}
-use Rattle.amp_plan.specs.Walk.{HasRoom, split_part}
-use Rattle.amp_plan.specs.Measures.{IsMeasured, excess, gain, loss}
-use Rattle.amp_plan.specs.Shares.{listed, choice_part, IsShare, FitsShare, IsChosen, CanGoOn}
-use Rattle.amp_plan.specs.SplitLists.{chain, listed_of, chosen_of, numbers_of, all_listed}
-use Rattle.amp_plan.specs.declared.share.Share.{Share}
-use Rattle.amp_plan.specs.declared.share.Chosen.{Chosen}
-use Rattle.amp_plan.specs.declared.split_list.Listed.{Listed}
-use Rattle.amp_plan.proofs.WalkLemmas.{each-append, taken-all, taken-more, allowed-next, HasTaken}
+use Rattle.amp_plan.specs.Measures.{excess, gain, loss}
+use Rattle.amp_plan.specs.Shares.{listed}
+use Rattle.amp_plan.specs.SplitLists.{chosen_of, is_passed, first_with, MeetsAt}
+use Rattle.amp_plan.proofs.WalkLemmas.{each-append, takes-same, taken-all, taken-more, allowed-next, allowed-same, HasTaken}
 use Rattle.amp_plan.proofs.SplitWalkLemmas.{total_at}
 use Rattle.amp_plan.proofs.ChoiceLemmas.{all-left, all-right, all-both, each-none, behind-end, choices-end}
 use Rattle.amp_plan.proofs.MeasureLemmas.{bytes_below}
@@ -32,39 +15,47 @@ use Rattle.amp_plan.proofs.RestLemmas.{all-standing}
 use Rattle.amp_plan.proofs.StartLemmas.{all_fit}
 use Rattle.amp_plan.proofs.SplitListLemmas.{listed-append}
 
--- ---- along a chain
+-- ---- the splits that are met
 
--- The next split of a chain: those before it have other chains.
-pub record IsNext (c : ℤ) (n : ℕ) (ss : List Split) (left : ℕ) : Type 0 where
-  pub before : List Split
-  pub split : Split
-  pub after : List Split
-  pub parts : before ++ split ∷ after ≡ ss
-  pub others : AllByRecursion (λ s. chain (excess c s.part) ≡ n → ⊥) before
-  pub same : chain (excess c split.part) ≡ n
-  pub at : left ≡ suc (length (all_listed c after))
+-- The next split that is met: those before it are passed over.
+record IsNext (c : ℤ) (k : Option ℕ) (ss : List Split) (left : ℕ) : Type 0 where
+  before : List Split
+  split : Split
+  after : List Split
+  parts : before ++ split ∷ after ≡ ss
+  others : AllByRecursion (λ s. is_passed k (chain (excess c s.part)) ≡ true) before
+  same : is_passed k (chain (excess c split.part)) ≡ false
+  at : left ≡ suc (length (all_listed c after))
 
-pub next_split : (c : ℤ) (n : ℕ) (ss : List Split) → 0 < from_first n (all_listed c ss) → IsNext c n ss (from_first n (all_listed c ss))
-unfolding all_listed from_first
-next_split c n [] l = absurd (omega arith)
-next_split c n (s ∷ ss) l = by (nat_eq (chain (excess c s.part)) n) refl l (next_split c n ss)
+next_split : (c : ℤ) (k : Option ℕ) (ss : List Split) → 0 < first_with k (all_listed c ss) → IsNext c k ss (first_with k (all_listed c ss))
+unfolding all_listed first_with from_first is_passed
+next_split c None [] l = absurd (omega arith)
+next_split c None (s ∷ ss) l = record { before = []; split = s; after = ss; parts = refl; others = tt; same = refl; at = refl }
+next_split c (Some n) [] l = absurd (omega arith)
+next_split c (Some n) (s ∷ ss) l = by (nat_eq (chain (excess c s.part)) n) refl l (next_split c (Some n) ss)
   where
-    by : (t : Bool) → nat_eq (chain (excess c s.part)) n ≡ t → 0 < cond t (suc (length (all_listed c ss))) (from_first n (all_listed c ss)) → (0 < from_first n (all_listed c ss) → IsNext c n ss (from_first n (all_listed c ss)))
-        → IsNext c n (s ∷ ss) (cond t (suc (length (all_listed c ss))) (from_first n (all_listed c ss)))
-    by true e l r = record { before = []; split = s; after = ss; parts = refl; others = tt; same = grind arith; at = refl }
+    by : (t : Bool) → nat_eq (chain (excess c s.part)) n ≡ t → 0 < cond t (suc (length (all_listed c ss))) (from_first n (all_listed c ss)) → (0 < from_first n (all_listed c ss) → IsNext c (Some n) ss (from_first n (all_listed c ss)))
+        → IsNext c (Some n) (s ∷ ss) (cond t (suc (length (all_listed c ss))) (from_first n (all_listed c ss)))
+    by true e l r = record { before = []; split = s; after = ss; parts = refl; others = tt; same = ap not e; at = refl }
     by false e l r =
         let x = r l in
-        record { before = s ∷ x.before; split = x.split; after = x.after; parts = ap (λ us. s ∷ us) x.parts; others = (λ f. grind arith, x.others); same = x.same; at = x.at }
+        record { before = s ∷ x.before; split = x.split; after = x.after; parts = ap (λ us. s ∷ us) x.parts; others = (ap not e, x.others); same = x.same; at = x.at }
 
-pub no_more : (c : ℤ) (n : ℕ) (ss : List Split) → from_first n (all_listed c ss) ≡ 0 → AllByRecursion (λ s. chain (excess c s.part) ≡ n → ⊥) ss
-unfolding all_listed from_first
-no_more c n [] l = tt
-no_more c n (s ∷ ss) l = by (nat_eq (chain (excess c s.part)) n) refl l (no_more c n ss)
+no_more : (c : ℤ) (k : Option ℕ) (ss : List Split) → first_with k (all_listed c ss) ≡ 0 → AllByRecursion (λ s. is_passed k (chain (excess c s.part)) ≡ true) ss
+unfolding all_listed first_with from_first is_passed
+no_more c k [] l = tt
+no_more c None (s ∷ ss) l = absurd (omega (arith, l))
+no_more c (Some n) (s ∷ ss) l = by (nat_eq (chain (excess c s.part)) n) refl l (no_more c (Some n) ss)
   where
-    by : (t : Bool) → nat_eq (chain (excess c s.part)) n ≡ t → cond t (suc (length (all_listed c ss))) (from_first n (all_listed c ss)) ≡ 0 → (from_first n (all_listed c ss) ≡ 0 → AllByRecursion (λ s. chain (excess c s.part) ≡ n → ⊥) ss)
-        → AllByRecursion (λ s. chain (excess c s.part) ≡ n → ⊥) (s ∷ ss)
+    by : (t : Bool) → nat_eq (chain (excess c s.part)) n ≡ t → cond t (suc (length (all_listed c ss))) (from_first n (all_listed c ss)) ≡ 0 → (from_first n (all_listed c ss) ≡ 0 → AllByRecursion (λ s. is_passed (Some n) (chain (excess c s.part)) ≡ true) ss)
+        → AllByRecursion (λ s. is_passed (Some n) (chain (excess c s.part)) ≡ true) (s ∷ ss)
     by true e l r = absurd (omega (arith, l))
-    by false e l r = (λ f. grind arith, r l)
+    by false e l r = (ap not e, r l)
+
+first_with-within : {T : Type 0} (k : Option ℕ) (xs : List (ℕ × T)) → first_with k xs ≤ length xs
+unfolding first_with
+first_with-within None xs = omega arith
+first_with-within (Some n) xs = first-within n xs
 
 -- where the next split stands in the whole list
 pub listed-parts : (c : ℤ) (taken before after ahead all : List Split) (s : Split) → taken ++ ahead ≡ all → before ++ s ∷ after ≡ ahead
@@ -106,133 +97,96 @@ listed_chosen p h s is f =
       small = omega (arith, f.small);
     }
 
--- a split of another excess has no product
-pub other_none : (p : Planning) (h : Share) (s : Split) → IsShare p h → h.low ≡ h.high → StandsIn p h s → (chain (excess h.per_n s.part) ≡ chain h.low → ⊥) → split_part p h.genus h.pair.a h.pair.b h.pair.weight h.k s ≡ []
-unfolding split_part
-other_none p h s is one f other =
+-- where a chain is walked along, the part of each product has its excess
+abbrev pub IsOnly : Share → Option ℕ → Type 0
+IsOnly h k = (n : ℕ) → k ≡ Some n → (h.low ≡ h.high) × (n ≡ chain h.low)
+
+-- a split that is passed over has no product
+passed_none : (p : Planning) (h : Share) (k : Option ℕ) (s : Split) → IsShare p h → IsOnly h k → StandsIn p h s → is_passed k (chain (excess h.per_n s.part)) ≡ true → split_part p h.genus h.pair.a h.pair.b h.pair.weight h.k s ≡ []
+unfolding split_part is_passed
+passed_none p h None s is only f other = cc
+passed_none p h (Some n) s is only f other =
     no_ranks p (key_of h.k (insert h.pair.a s.part)) (key_of (h.genus - h.k) (insert h.pair.b s.rest)) (Twice h.pair.weight (whole s.ways)) (λ a b.
     let w = live_within p h s is f.fits a b in
-    let same : excess h.per_n s.part ≡ h.low = omega (arith, ints, w.0, w.1, one) in
-    other (ap chain same))
+    let o = only n refl in
+    let same : excess h.per_n s.part ≡ h.low = omega (arith, ints, w.0, w.1, o.0) in
+    let met : chain (excess h.per_n s.part) ≡ n = ap chain same ∙ sym o.1 in
+    false≢true (sym (ap not (eq-eqb (chain (excess h.per_n s.part)) n met)) ∙ other))
 
--- ---- what a visitor has taken
-
--- A visitor that took what all splits make but those ahead, whose first of the chain is known.
-pub record HasWalked {W S : Type 0} (allows : W → ℕ → Type 0) (state : W → S) (step : S → RankedTerm → S) (f : Split → List RankedTerm) (c : ℤ) (n : ℕ) (all : List Split) (left : ℕ) (old new : W) : Type 0 where
-  pub ahead : List Split
-  pub is : left ≡ from_first n (all_listed c ahead)
-  pub taken : HasTaken allows state step f all ahead old new
-
--- those that make nothing are taken too
-pub taken-skip : {W S A : Type 0} (allows : W → ℕ → Type 0) (state : W → S) (step : S → RankedTerm → S) (f : A → List RankedTerm) (all before rest ahead : List A) (a b : W)
-    → before ++ rest ≡ ahead → AllByRecursion (λ x. f x ≡ []) before → HasTaken allows state step f all ahead a b → HasTaken allows state step f all rest a b
-taken-skip allows state step f all before rest ahead a b e none h = record {
-  before = h.before ++ before;
-  parts = append_assoc h.before before rest ∙ ap (λ xs. h.before ++ xs) e ∙ h.parts;
-  takes = subst (λ ts. Takes allows state step ts a b) (sym (each-append f h.before before ∙ ap (λ ts. each h.before f ++ ts) (each-none f before none) ∙ append-nil (each h.before f))) h.takes;
-}
-
--- none of the splits before the next one of the chain makes a product
-pub before_none : (p : Planning) (h : Share) (all taken ahead : List Split) (left : ℕ) (x : IsNext h.per_n (chain h.low) ahead left) → IsShare p h → h.low ≡ h.high → AllByRecursion (StandsIn p h) all → taken ++ ahead ≡ all
-    → AllByRecursion (λ s. split_part p h.genus h.pair.a h.pair.b h.pair.weight h.k s ≡ []) x.before
-before_none p h all taken ahead left x is one stand e =
-    all-both (StandsIn p h) (λ s. chain (excess h.per_n s.part) ≡ chain h.low → ⊥) (λ s. split_part p h.genus h.pair.a h.pair.b h.pair.weight h.k s ≡ []) x.before (λ s f o. other_none p h s is one f o)
-    (all-left (StandsIn p h) x.before (x.split ∷ x.after) (all-ahead (StandsIn p h) [] (x.before ++ x.split ∷ x.after) ahead x.parts (all-ahead (StandsIn p h) taken ahead all e stand))) x.others
-
--- at the end of the chain none of those ahead makes a product
-pub none_ahead : (p : Planning) (h : Share) (all taken ahead : List Split) → IsShare p h → h.low ≡ h.high → AllByRecursion (StandsIn p h) all → taken ++ ahead ≡ all → from_first (chain h.low) (all_listed h.per_n ahead) ≡ 0
-    → AllByRecursion (λ s. split_part p h.genus h.pair.a h.pair.b h.pair.weight h.k s ≡ []) ahead
-none_ahead p h all taken ahead is one stand e end =
-    all-both (StandsIn p h) (λ s. chain (excess h.per_n s.part) ≡ chain h.low → ⊥) (λ s. split_part p h.genus h.pair.a h.pair.b h.pair.weight h.k s ≡ []) ahead (λ s f o. other_none p h s is one f o)
-    (all-ahead (StandsIn p h) taken ahead all e stand) (no_more h.per_n (chain h.low) ahead end)
-
--- A visitor that took what all splits make but those ahead, which are so many.
-pub record HasGone {W S : Type 0} (allows : W → ℕ → Type 0) (state : W → S) (step : S → RankedTerm → S) (f : Split → List RankedTerm) (all : List Split) (left : ℕ) (old new : W) : Type 0 where
-  pub ahead : List Split
-  pub is : left ≡ length ahead
-  pub taken : HasTaken allows state step f all ahead old new
-
-pub length-listed : (c : ℤ) (ss : List Split) → length (all_listed c ss) ≡ length ss
+length-listed : (c : ℤ) (ss : List Split) → length (all_listed c ss) ≡ length ss
 unfolding all_listed
 length-listed c ss = length-map ss (λ s. (chain (excess c s.part), listed_of (numbers_of c s)))
-
--- what is answered of the item from which on there are so many
-abbrev pub IsAt : List (ℕ × Listed) → ℕ → Listed × ℕ → Type 0
-IsAt xs left r = (before after : List (ℕ × Listed)) (x : ℕ × Listed) → before ++ x ∷ after ≡ xs → left ≡ suc (length after) → r ≡ (x.1, from_first x.0 after)
 
 listed-back : (c : ℤ) (s : Split) (l : Listed) → l ≡ listed_of (numbers_of c s) → chosen_of l ≡ numbers_of c s
 unfolding listed_of chosen_of numbers_of
 listed-back c s l e = ap chosen_of e
 
-module _ {W S : Type 0} (allows : W → ℕ → Type 0) (state : W → S) (step : S → RankedTerm → S) (p : Planning) (h : Share) (all : List Split) where
-  -- the products of a split
-  abbrev pub made : Split → List RankedTerm
-  made s = split_part p h.genus h.pair.a h.pair.b h.pair.weight h.k s
+-- ---- what a visitor has taken
 
-  -- A split that is met as it is listed, what stands behind it, and what was taken before it.
-  pub record IsMet (left : ℕ) (r : Listed × ℕ) (old new : W) : Type 0 where
-    pub split : Split
-    pub after : List Split
-    pub at : left ≡ suc (length (all_listed h.per_n after))
-    pub next : r.1 ≡ from_first (chain (excess h.per_n split.part)) (all_listed h.per_n after)
-    pub chosen : IsChosen p h [] (chosen_of r.0) split
-    pub taken : HasTaken allows state step made all (split ∷ after) old new
+module _ {W S : Type 0} {allows : W → ℕ → Type 0} {state : W → S} {step : S → RankedTerm → S} {f : Split → List RankedTerm} where
+  -- those that make nothing are taken too
+  taken-skip : (before : List Split) {all rest ahead : List Split} {a b : W} → before ++ rest ≡ ahead → AllByRecursion (λ x. f x ≡ []) before → HasTaken allows state step f all ahead a b → HasTaken allows state step f all rest a b
+  taken-skip before {all} {rest} {ahead} {a} {b} e none h = record {
+    before = h.before ++ before;
+    parts = append_assoc h.before before rest ∙ ap (λ xs. h.before ++ xs) e ∙ h.parts;
+    takes = takes-same (sym (each-append f h.before before ∙ ap (λ ts. each h.before f ++ ts) (each-none f before none) ∙ append-nil (each h.before f))) h.takes;
+  }
 
-  -- with what was taken before those that stand ahead, of which the first ones make nothing
-  met-of : IsShare p h → AllByRecursion (StandsIn p h) all → (xs : List (ℕ × Listed)) (left : ℕ) (r : Listed × ℕ) (ahead before after : List Split) (s : Split) (old new : W) → xs ≡ all_listed h.per_n all → IsAt xs left r
-      → HasTaken allows state step made all ahead old new → before ++ s ∷ after ≡ ahead → left ≡ suc (length (all_listed h.per_n after)) → AllByRecursion (λ u. made u ≡ []) before → IsMet left r old new
-  met-of is stand xs left r ahead before after s old new listed at t parts here none =
-      let met = at (all_listed h.per_n (t.before ++ before)) (all_listed h.per_n after) (chain (excess h.per_n s.part), listed_of (numbers_of h.per_n s)) (listed-parts h.per_n t.before before after ahead all s t.parts parts ∙ sym listed) here in
-      let stands = (all-right (StandsIn p h) before (s ∷ after) (all-ahead (StandsIn p h) [] (before ++ s ∷ after) ahead parts (all-ahead (StandsIn p h) t.before ahead all t.parts stand))).0 in
-      record {
-        split = s;
-        after = after;
-        at = here;
-        next = ap (λ q. q.1) met;
-        chosen = subst (λ d. IsChosen p h [] d s) (sym (listed-back h.per_n s r.0 (ap (λ q. q.0) met))) (listed_chosen p h s is stands);
-        taken = taken-skip allows state step made all before (s ∷ after) ahead old new parts none t;
-      }
+-- A visitor that took what all splits make but those ahead; it is known how many there are from the first one of them that is met on.
+pub record HasWalked {W S : Type 0} (allows : W → ℕ → Type 0) (state : W → S) (step : S → RankedTerm → S) (f : Split → List RankedTerm) (c : ℤ) (k : Option ℕ) (all : List Split) (left : ℕ) (old new : W) : Type 0 where
+  pub ahead : List Split
+  pub is : left ≡ first_with k (all_listed c ahead)
+  pub taken : HasTaken allows state step f all ahead old new
 
-  module _ (left : ℕ) (r : Listed × ℕ) (old new : W) (m : IsMet left r old new) where
-    pub met-goes_on : NameAllowed (allows old) (each all made) → CanGoOn (allows new) p h [] (chosen_of r.0)
-    met-goes_on a = record {
-      split = m.split;
-      chosen = m.chosen;
-      allowed = subst (NameAllowed (allows new)) (sym (choices-end p h m.split)) (allowed-next allows state step made all (m.split ∷ m.after) m.after m.split old new refl a m.taken);
-    }
+module _ {W S : Type 0} {allows : W → ℕ → Type 0} {state : W → S} {step : S → RankedTerm → S} {c : ℤ} {f : Split → List RankedTerm} {k : Option ℕ} {all : List Split} {left : ℕ} {old new : W} (w : HasWalked allows state step f c k all left old new) where
+  pub walked-within : {xs : List (ℕ × Listed)} → xs ≡ all_listed c all → left ≤ length xs
+  walked-within {xs} e = omega (arith, w.is, first_with-within k (all_listed c w.ahead), length-listed c w.ahead, ap length w.taken.parts, length-append w.taken.before w.ahead, ap length e, length-listed c all)
 
-    pub met-taken : (newer : W) → ((s : Split) → IsChosen p h [] (chosen_of r.0) s → Takes allows state step (choice_part p h s []) new newer) → HasTaken allows state step made all m.after old newer
-    met-taken newer t = taken-more allows state step made all (m.split ∷ m.after) m.after m.split old new newer refl m.taken
-        (subst (λ ts. Takes allows state step ts new newer) (choices-end p h m.split) (t m.split m.chosen))
+abbrev pub made : Planning → Share → Split → List RankedTerm
+made p h = split_part p h.genus h.pair.a h.pair.b h.pair.weight h.k
 
-    pub met-shorter : r.1 < left
-    met-shorter = omega (arith, m.next, m.at, first-within (chain (excess h.per_n m.split.part)) (all_listed h.per_n m.after))
+-- A split that is met as it is listed, what stands behind it, and what was taken before it.
+pub record IsMet {W S : Type 0} (allows : W → ℕ → Type 0) (state : W → S) (step : S → RankedTerm → S) (p : Planning) (h : Share) (k : Option ℕ) (all : List Split) (left : ℕ) (old new : W) (r : Listed × ℕ) : Type 0 where
+  pub split : Split
+  pub after : List Split
+  pub at : left ≡ suc (length (all_listed h.per_n after))
+  pub next : r.1 ≡ first_with k (all_listed h.per_n after)
+  pub chosen : IsChosen p h [] (chosen_of r.0) split
+  pub taken : HasTaken allows state step (made p h) all (split ∷ after) old new
 
-  -- A split that a walk along the chain of the one excess meets
-  pub record IsMetInChain (left : ℕ) (r : Listed × ℕ) (old new : W) : Type 0 where
-    pub met : IsMet left r old new
-    pub same : chain (excess h.per_n met.split.part) ≡ chain h.low
+module _ {W S : Type 0} {allows : W → ℕ → Type 0} {state : W → S} {step : S → RankedTerm → S} {p : Planning} {h : Share} {k : Option ℕ} {all : List Split} {left : ℕ} {old new : W} where
+  module _ (is : IsShare p h) (stand : AllByRecursion (StandsIn p h) all) (only : IsOnly h k) (w : HasWalked allows state step (made p h) h.per_n k all left old new) where
+    idle : (before rest : List Split) → before ++ rest ≡ w.ahead → AllByRecursion (λ s. is_passed k (chain (excess h.per_n s.part)) ≡ true) before → AllByRecursion (λ s. made p h s ≡ []) before
+    idle before rest e passed =
+        all-both (StandsIn p h) (λ s. is_passed k (chain (excess h.per_n s.part)) ≡ true) (λ s. made p h s ≡ []) before (λ s f o. passed_none p h k s is only f o)
+        (all-left (StandsIn p h) before rest (all-ahead (StandsIn p h) [] (before ++ rest) w.ahead e (all-ahead (StandsIn p h) w.taken.before w.ahead all w.taken.parts stand))) passed
 
-  module _ (is : IsShare p h) (stand : AllByRecursion (StandsIn p h) all) (left : ℕ) (old new : W) where
-    pub meets : h.low ≡ h.high → HasWalked allows state step made h.per_n (chain h.low) all left old new → 0 < left → (xs : List (ℕ × Listed)) (r : Listed × ℕ) → xs ≡ all_listed h.per_n all → IsAt xs left r → IsMetInChain left r old new
-    unfolding met-of next_split
-    meets one w l xs r listed at =
-        let first = from_first (chain h.low) (all_listed h.per_n w.ahead) in
-        let x : IsNext h.per_n (chain h.low) w.ahead first = next_split h.per_n (chain h.low) w.ahead (subst (λ k. 0 < k) w.is l) in record {
-          met = met-of is stand xs left r w.ahead x.before x.after x.split old new listed at w.taken x.parts (w.is ∙ x.at) (before_none p h all w.taken.before w.ahead first x is one stand w.taken.parts);
-          same = x.same;
+    pub meets : 0 < left → {xs : List (ℕ × Listed)} {r : Listed × ℕ} → xs ≡ all_listed h.per_n all → MeetsAt k xs left r → IsMet allows state step p h k all left old new r
+    meets l {xs} {r} listed at =
+        let x = next_split h.per_n k w.ahead (subst (λ k. 0 < k) w.is l) in
+        let here = w.is ∙ x.at in
+        let met = at (all_listed h.per_n (w.taken.before ++ x.before)) (all_listed h.per_n x.after) (chain (excess h.per_n x.split.part), listed_of (numbers_of h.per_n x.split))
+        (listed-parts h.per_n w.taken.before x.before x.after w.ahead all x.split w.taken.parts x.parts ∙ sym listed) here x.same in
+        let stands = (all-right (StandsIn p h) x.before (x.split ∷ x.after) (all-ahead (StandsIn p h) [] (x.before ++ x.split ∷ x.after) w.ahead x.parts (all-ahead (StandsIn p h) w.taken.before w.ahead all w.taken.parts stand))).0 in
+        record {
+          split = x.split;
+          after = x.after;
+          at = here;
+          next = ap (λ q. q.1) met;
+          chosen = subst (λ d. IsChosen p h [] d x.split) (sym (listed-back h.per_n x.split r.0 (ap (λ q. q.0) met))) (listed_chosen p h x.split is stands);
+          taken = taken-skip x.before x.parts (idle x.before (x.split ∷ x.after) x.parts x.others) w.taken;
         }
 
-    -- at the end of the chain all is taken
-    pub walked-all : h.low ≡ h.high → HasWalked allows state step made h.per_n (chain h.low) all left old new → left ≡ 0 → Takes allows state step (each all made) old new
-    walked-all one w l =
-        taken-all allows state step made all [] old new refl
-        (taken-skip allows state step made all w.ahead [] w.ahead old new (append-nil w.ahead) (none_ahead p h all w.taken.before w.ahead is one stand w.taken.parts (sym w.is ∙ l)) w.taken)
+    -- where no one is met any more, all is taken
+    pub walked-all : left ≡ 0 → Takes allows state step (each all (made p h)) old new
+    walked-all l = taken-all refl (taken-skip w.ahead (append-nil w.ahead) (idle w.ahead [] (append-nil w.ahead) (no_more h.per_n k w.ahead (sym w.is ∙ l))) w.taken)
 
-    -- a walk along the whole list
-    pub meets-each : HasGone allows state step made all left old new → 0 < left → (xs : List (ℕ × Listed)) (r : Listed × ℕ) → xs ≡ all_listed h.per_n all → IsAt xs left r → IsMet left r old new
-    meets-each w l xs r listed at = by w.ahead w.is w.taken
-      where
-        by : (ahead : List Split) → left ≡ length ahead → HasTaken allows state step made all ahead old new → IsMet left r old new
-        by [] e t = absurd (omega (arith, e, l))
-        by (s ∷ after) e t = met-of is stand xs left r (s ∷ after) [] after s old new listed at t refl (e ∙ ap suc (sym (length-listed h.per_n after))) tt
+  module _ {r : Listed × ℕ} (m : IsMet allows state step p h k all left old new r) where
+    pub met-goes_on : NameAllowed (allows old) (each all (made p h)) → CanGoOn (allows new) p h [] (chosen_of r.0)
+    met-goes_on a = record { split = m.split; chosen = m.chosen; allowed = allowed-same _ (choices-end p h m.split) (allowed-next refl a m.taken) }
+
+    pub met-walked : {newer : W} → ((s : Split) → IsChosen p h [] (chosen_of r.0) s → Takes allows state step (choice_part p h s []) new newer) → HasWalked allows state step (made p h) h.per_n k all r.1 old newer
+    met-walked {newer} t = record { ahead = m.after; is = m.next; taken = taken-more refl m.taken (takes-same (choices-end p h m.split) (t m.split m.chosen)) }
+
+    pub met-shorter : r.1 < left
+    met-shorter = omega (arith, m.next, m.at, first_with-within k (all_listed h.per_n m.after))

@@ -1,19 +1,9 @@
 -- The products of the splits of a list, run by run.
-use Rattle.std.proofs.Common.{◌≡◌, ℕ, zero, suc, ◌+◌, ◌-◌, ◌*◌, ◌<◌, ◌≤◌, List, [], ◌∷◌, ◌++◌, map, append_assoc, append-nil, inl, inr, refl, sym, ap, ap₂, subst, ◌∙◌, arith}
-use Rattle.std.specs.Prelude.{◌⊎◌}
-use Rattle.std.specs.List.{AllByRecursion}
-use lib.ListN.{replicate}
-use Rattle.std.proofs.Math.Nat.{mul_assoc}
-use Rattle.std.proofs.lemmas.Bool.{cases_lt}
-use Rattle.airy_math.specs.Splits.{Split, splits, runs}
-use Rattle.airy_math.specs.Sums.{below, binomial, count_from, each}
-use Rattle.airy_index.specs.Choices.{put_before, chosen_split, all_splits}
-use Rattle.airy_index.proofs.ChoiceLemmas.{splits-all}
-use Rattle.amp_plan.specs.Plans.{Planning}
-use Rattle.amp_plan.specs.Ranked.{RankedTerm}
-use Rattle.amp_plan.specs.Walk.{split_part, genus_part}
-use Rattle.amp_plan.specs.Shares.{behind, more_of, no_split, choice_part}
-use Rattle.amp_plan.specs.declared.share.Share.{Share}
+use Rattle.std.proofs.Common.{◌≡◌, ℕ, zero, suc, ◌+◌, ◌-◌, ◌*◌, ◌<◌, ◌≤◌, List, [], ◌∷◌, ◌++◌, map, append_assoc, append-nil, inl, inr, refl, sym, ap, ap₂, subst, ◌∙◌, arith, ◌⊎◌, replicate}
+use Rattle.amp_plan.proofs.Words.{AllByRecursion, mul_assoc, cases_lt, Split, splits, binomial, count_from, each, put_before, chosen_split, all_splits, splits-all, Planning, RankedTerm, split_part, genus_part, more_of, no_split, choice_part, Share}
+use Rattle.airy_math.specs.Splits.{runs}
+use Rattle.airy_math.specs.Sums.{below}
+use Rattle.amp_plan.specs.Shares.{behind}
 use Rattle.amp_plan.proofs.WalkLemmas.{each-append, each-one}
 
 -- ---- lists

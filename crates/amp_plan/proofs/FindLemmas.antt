@@ -1,22 +1,10 @@
 -- A candidate that is stable and covered is planned, and found by its code.
-use Rattle.std.proofs.Common.{◌≡◌, ℕ, ◌+◌, ◌*◌, ◌<◌, ◌≤◌, ◌^◌, Bool, true, false, List, [], ◌∷◌, length, refl, sym, ap, ap₂, ◌∙◌, arith, Option, Some, None}
-use Rattle.std.specs.Prelude.{cond, ◌&&◌, ◌+ℤ◌}
-use Rattle.std.specs.Int.RustNames.{unsigned_abs}
-use Rattle.std.proofs.lemmas.Bool.{lt-ltb, and_from}
-use Rattle.airy_math.specs.Keys.{Key, key_of, insert, euler, stable}
-use Rattle.airy_math.specs.Shapes.{covers, live, per_n}
-use Rattle.airy_math.specs.Planned.{IsPlanned}
-use Rattle.airy_math.specs.Ranks.{ListsPlanned, place_of}
-use Rattle.sparse_tensor.specs.Entries.{looked_up}
-use Rattle.key_index.specs.Codes.{code_of, code_of_genus}
+use Rattle.std.proofs.Common.{◌≡◌, ℕ, ◌+◌, ◌*◌, ◌<◌, ◌≤◌, ◌^◌, Bool, true, false, List, [], ◌∷◌, length, refl, sym, ap, ap₂, ◌∙◌, arith, Option, Some, None, cond, ◌&&◌, ◌+ℤ◌, lt-ltb, subst}
+use Rattle.amp_plan.proofs.Words.{unsigned_abs, and_from, Key, key_of, insert, euler, stable, covers, live, per_n, IsPlanned, ListsPlanned, place_of, looked_up, code_of_genus, list_code-small, list_code-more, list_code-none, index_code-small, Measure, Planning, tensors_of, keys_of, rank_at, covers_excess, IsMeasured, IsLight, IsCandidate, HasRoom, live_rank, length-insert}
+use Rattle.key_index.specs.Codes.{code_of}
 use Rattle.key_index.specs.Found.{IsRankOf}
-use Rattle.key_index.proofs.CodeLemmas.{list_code-small, list_code-more, list_code-none, index_code-small}
-use Rattle.amp_plan.specs.declared.measure.Measure.{Measure}
-use Rattle.amp_plan.specs.Plans.{Planning, tensors_of, keys_of, rank_at}
-use Rattle.amp_plan.specs.Measures.{covers_excess, IsMeasured, IsLight, IsCandidate}
-use Rattle.amp_plan.specs.Walk.{HasRoom, live_rank}
 use Rattle.amp_plan.proofs.MeasureLemmas.{covers-excess, bytes_below, measured-append, measured-insert, measured-light}
-use Rattle.amp_plan.proofs.RankWalkLemmas.{length-insert, sorted-insert}
+use Rattle.amp_plan.proofs.RankWalkLemmas.{sorted-insert}
 
 module _ (p : Planning) (g : ℕ) (m : Measure) (key : Key) (h : IsCandidate p g m key) where
   covered_as : covers p.tensors.shape key ≡ covers_excess p.tensors.shape g m.excess
@@ -60,20 +48,25 @@ module _ (p : Planning) (g : ℕ) (m : Measure) (key : Key) (h : IsCandidate p g
 -- ---- a list with one more index
 
 -- a measure that can be added to another, with room for one index more
-pub room_light : (p : Planning) (g : ℕ) (J : List ℕ) (m : Measure) → p.tensors.dim ≤ 72 → p.bound ≤ 24 → unsigned_abs (per_n p.tensors.shape) ≤ 99 → HasRoom (tensors_of p) p.bound g J → IsMeasured (per_n p.tensors.shape) J m → IsLight m
+pub room_light : (p : Planning) {g : ℕ} {J : List ℕ} {m : Measure} → p.tensors.dim ≤ 72 → p.bound ≤ 24 → unsigned_abs (per_n p.tensors.shape) ≤ 99 → HasRoom (tensors_of p) p.bound g J → IsMeasured (per_n p.tensors.shape) J m → IsLight m
 unfolding tensors_of looked_up
-room_light p g J m dim bound small room h = measured-light (per_n p.tensors.shape) J m small (bytes_below 0 p.tensors.dim J (omega (arith, dim)) room.sorted) (omega (arith, room.level, bound)) h
+room_light p {g} {J} {m} dim bound small room h = measured-light (per_n p.tensors.shape) J m small (bytes_below 0 p.tensors.dim J (omega (arith, dim)) room.sorted) (omega (arith, room.level, bound)) h
 
-pub room_code : (p : Planning) (g x : ℕ) (J : List ℕ) (m item : Measure) → p.bound ≤ 24 → HasRoom (tensors_of p) p.bound g J → IsMeasured (per_n p.tensors.shape) J m → IsMeasured (per_n p.tensors.shape) (x ∷ []) item → item.code + m.code < 2 ^ 63
-room_code p g x J m item bound room h i = omega (arith, i.code, list_code-more x [], list_code-none, index_code-small x, h.code, list_code-small J, room.level, bound)
+module _ (p : Planning) {g x : ℕ} {J : List ℕ} {m item both : Measure} (bound : p.bound ≤ 24) (room : HasRoom (tensors_of p) p.bound g J) (h : IsMeasured (per_n p.tensors.shape) J m) (i : IsMeasured (per_n p.tensors.shape) (x ∷ []) item)
+    (sum : both ≡ record { places = item.places + m.places; excess = item.excess +ℤ m.excess; code = item.code + m.code }) where
+  pub beside_measured : IsMeasured (per_n p.tensors.shape) (insert x J) both
+  beside_measured = measured-insert (per_n p.tensors.shape) x J both (subst (IsMeasured (per_n p.tensors.shape) (x ∷ J)) (sym sum) (measured-append (per_n p.tensors.shape) (x ∷ []) J item m i h))
 
-pub beside_candidate : (p : Planning) (g x : ℕ) (J : List ℕ) (m item : Measure) → x < p.tensors.dim → HasRoom (tensors_of p) p.bound g J → IsMeasured (per_n p.tensors.shape) J m → IsMeasured (per_n p.tensors.shape) (x ∷ []) item
-    → IsCandidate p g (record { places = item.places + m.places; excess = item.excess +ℤ m.excess; code = item.code + m.code }) (key_of g (insert x J))
-unfolding key_of tensors_of looked_up
-beside_candidate p g x J m item below room h i = record {
-  genus = refl;
-  measured = measured-insert (per_n p.tensors.shape) x J (record { places = item.places + m.places; excess = item.excess +ℤ m.excess; code = item.code + m.code }) (measured-append (per_n p.tensors.shape) (x ∷ []) J item m i h);
-  sorted = sorted-insert p.tensors.dim x J below room.sorted;
-  some = omega (arith, length-insert x J);
-  level = omega (arith, length-insert x J, room.level);
-}
+  pub beside_code : both.code < 2 ^ 63
+  beside_code = omega (arith, ap (λ z. z.code) sum, i.code, list_code-more x [], list_code-none, index_code-small x, h.code, list_code-small J, room.level, bound)
+
+  -- the rank of the key with the index
+  pub beside_live : {r : Option ℕ} → x < p.tensors.dim → ((key : Key) → IsCandidate p g both key → r ≡ live_rank p key) → r ≡ live_rank p (key_of g (insert x J))
+  unfolding key_of tensors_of looked_up
+  beside_live below f = f (key_of g (insert x J)) (record {
+    genus = refl;
+    measured = beside_measured;
+    sorted = sorted-insert p.tensors.dim x J below room.sorted;
+    some = omega (arith, length-insert x J);
+    level = omega (arith, length-insert x J, room.level);
+  })

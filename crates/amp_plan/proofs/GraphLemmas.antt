@@ -1,21 +1,12 @@
 -- Needs and dependents gathered rank by rank.
-use Rattle.std.proofs.Common.{◌≡◌, ℕ, zero, suc, ◌+◌, ◌-◌, ◌<◌, ◌≤◌, Bool, true, false, ◌||◌, List, [], ◌∷◌, ◌++◌, length, map, get_or, refl, sym, ◌∙◌, ap, ap₂, subst, arith}
-use Rattle.std.specs.Prelude.{cond, Option, Some, None, option_map}
-use lib.Dec.{eqb, ltb}
-use mathlib.Core.Logic.{◌⊎◌, inl, inr}
-use Rattle.std.proofs.lemmas.Bool.{eq-eqb, ne_eqb, cases_eq, cases_lt, lt-ltb, le-ltb}
-use Rattle.airy_math.specs.Sums.{keep, below, count_from}
-use Rattle.airy_math.specs.Keys.{total}
-use Rattle.airy_math.specs.Tensors.{Tensors}
-use Rattle.airy_math.specs.Planned.{planned}
+use Rattle.std.proofs.Common.{◌≡◌, ℕ, zero, suc, ◌+◌, ◌-◌, ◌<◌, ◌≤◌, Bool, true, false, ◌||◌, List, [], ◌∷◌, length, map, get_or, refl, sym, ◌∙◌, ap, subst, arith, Option, Some, None, option_map, eqb, ltb, ◌⊎◌, inl, inr, eq-eqb, ne_eqb, lt-ltb, le-ltb}
+use Rattle.amp_plan.proofs.Words.{cases_eq, cases_lt, keep, count_from, total, Tensors, planned, Planning, tensors_of, keys_of, has, needs_rank, needed, resting, need_counts, first_past, needs_at, limit_of, PassesNeeds, AreDistinct, IsRow, AreTurned, standing, Marks, AreNamed, IsGraph}
+use Rattle.airy_math.specs.Sums.{below}
 use Rattle.airy_math.specs.Ranks.{key_at}
-use Rattle.amp_plan.specs.Plans.{Planning, tensors_of, keys_of}
-use Rattle.amp_plan.specs.Needs.{has, needs_rank, needed, resting, need_counts, first_past, edges_of, needs_at, dependents_at}
-use Rattle.amp_plan.specs.Limits.{limit_of, PassesNeeds}
-use Rattle.amp_plan.specs.Rows.{AreDistinct, IsRow, AreTurned, standing}
-use Rattle.amp_plan.specs.Marks.{Marks, AreNamed}
-use Rattle.amp_plan.specs.Kept.{IsGraph, AreDependents, AreCollected, IsNamedNext}
+use Rattle.amp_plan.specs.Needs.{edges_of, dependents_at}
+use Rattle.amp_plan.specs.Kept.{AreDependents, AreCollected, IsNamedNext}
 use Rattle.amp_plan.proofs.LimitLemmas.{limit-within, limit-needs}
+use Rattle.airy_math.proofs.SameNumbers.{clash}
 
 -- ---- numbers that pass a test
 
@@ -64,10 +55,6 @@ distinct-kept p k (suc n) = by (p k) (distinct-kept p (suc k) n)
     by : (t : Bool) → AreDistinct (keep p (count_from (suc k) n)) → AreDistinct (elim t [ true ↦ k ∷ keep p (count_from (suc k) n) | false ↦ keep p (count_from (suc k) n) ])
     by true d = (has-outside p (suc k) n k (inl (omega arith)), d)
     by false d = d
-
-clash : (b : Bool) → b ≡ true → b ≡ false → ⊥
-clash true u v = cc
-clash false u v = cc
 
 pub keep-row : (p : ℕ → Bool) (n : ℕ) → IsRow n (keep p (below n))
 unfolding below

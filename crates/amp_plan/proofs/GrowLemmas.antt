@@ -1,24 +1,15 @@
 -- A greater bound keeps ranks, their keys and their needs.
-use Rattle.std.proofs.Common.{◌≡◌, ℕ, zero, suc, ◌+◌, ◌-◌, ◌<◌, ◌≤◌, Bool, true, false, List, [], ◌∷◌, ◌++◌, length, map, get_or, refl, sym, ◌∙◌, ap, ap₂, subst, arith, length-append}
-use Rattle.std.specs.Prelude.{cond}
-use mathlib.Core.Logic.{◌⊎◌, inl, inr}
-use Rattle.std.proofs.lemmas.Bool.{cases_lt}
-use Rattle.airy_math.specs.Sums.{keep, below, count_from, each}
-use Rattle.airy_math.specs.Keys.{Key}
-use Rattle.airy_math.specs.Levels.{GrowsByLevels, LevelsLaw}
-use Rattle.airy_math.specs.NeedsFirst.{NeedsComeFirst, NeedsLaw}
-use Rattle.airy_math.specs.Tensors.{Tensors}
-use Rattle.airy_math.specs.Terms.{needs, StandsIn}
-use Rattle.airy_math.specs.Planned.{planned}
-use Rattle.airy_math.specs.Ranks.{place_of, key_at, no_key, ListsPlanned, PlanLaw, RanksInOrder, RanksLaw}
+use Rattle.std.proofs.Common.{◌≡◌, ℕ, zero, suc, ◌+◌, ◌-◌, ◌<◌, ◌≤◌, Bool, true, false, List, [], ◌∷◌, ◌++◌, length, map, get_or, refl, sym, ◌∙◌, ap, ap₂, subst, arith, length-append, cond, ◌⊎◌, inl, inr}
+use Rattle.amp_plan.proofs.Words.{cases_lt, keep, count_from, each, Key, NeedsComeFirst, Tensors, needs, StandsIn, planned, place_of, no_key, ListsPlanned, PlanLaw, Planning, tensors_of, keys_of, IsGraph, level_keys, AreNamed, has, named_ranks, needs_rank, needed, needs_at}
+use Rattle.airy_math.specs.Sums.{below}
+use Rattle.airy_math.specs.Levels.{LevelsLaw}
+use Rattle.airy_math.specs.NeedsFirst.{NeedsLaw}
+use Rattle.airy_math.specs.Ranks.{key_at, RanksLaw}
 use Rattle.airy_math.proofs.EachLemmas.{each-count_append}
 use Rattle.airy_math.proofs.KeyLemmas.{append-nil}
-use Rattle.amp_plan.specs.Plans.{Planning, tensors_of, keys_of}
 use Rattle.amp_plan.specs.Plans as plans
-use Rattle.amp_plan.specs.Kept.{IsGraph, AreKnown}
-use Rattle.amp_plan.specs.Listing.{level_keys}
-use Rattle.amp_plan.specs.Marks.{AreNamed}
-use Rattle.amp_plan.specs.Needs.{has, named_ranks, needs_rank, needed, needs_at, KeepsRanks}
+use Rattle.amp_plan.specs.Kept.{AreKnown}
+use Rattle.amp_plan.specs.Needs.{KeepsRanks}
 use Rattle.amp_plan.proofs.LevelLemmas.{planned-levels}
 use Rattle.amp_plan.proofs.RowLemmas.{keep-below_more}
 use Rattle.amp_plan.proofs.NeedLemmas.{named_small}

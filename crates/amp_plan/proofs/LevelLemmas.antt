@@ -1,16 +1,7 @@
 -- The planned keys of a genus, of an Euler number and of all.
-use Rattle.std.proofs.Common.{◌≡◌, ℕ, suc, ◌+◌, ◌*◌, ◌-◌, ◌<◌, ◌≤◌, Bool, true, false, ◌&&◌, List, [], ◌∷◌, ◌++◌, length, map, refl, sym, ◌∙◌, ap, arith, append_assoc, length-append}
-use lib.Dec.{ltb}
-use Rattle.std.proofs.lemmas.Bool.{lt-ltb}
-use Rattle.airy_math.specs.Keys.{key_of, total}
-use Rattle.airy_math.specs.Shapes.{covers}
-use Rattle.airy_math.specs.Sums.{keep, each, count_from}
-use Rattle.airy_math.specs.Tensors.{Tensors}
-use Rattle.airy_math.specs.Planned.{planned, lists_from}
-use Rattle.airy_math.proofs.SumLemmas.{Each, Each-weaken}
-use Rattle.airy_math.proofs.PlannedLaw.{IsListed, listed}
-use Rattle.amp_plan.specs.declared.window.Window.{Window}
-use Rattle.amp_plan.specs.Listing.{is_in, reaching, keys_behind, found, keys_at, level_keys}
+use Rattle.std.proofs.Common.{◌≡◌, ℕ, suc, ◌+◌, ◌*◌, ◌-◌, ◌<◌, ◌≤◌, Bool, true, false, ◌&&◌, List, [], ◌∷◌, ◌++◌, length, map, refl, sym, ◌∙◌, ap, arith, append_assoc, length-append, ltb, lt-ltb}
+use Rattle.amp_plan.proofs.Words.{key_of, total, covers, keep, each, count_from, Tensors, planned, lists_from, Each, Each-weaken, IsListed, Window, is_in, reaching, keys_behind, found, keys_at, level_keys}
+use Rattle.airy_math.proofs.PlannedLaw.{listed}
 use Rattle.amp_plan.proofs.ListingLemmas.{total-most}
 
 keep-map_each : {A B : Type 0} (p : B → Bool) (q : A → Bool) (f : A → B) (xs : List A) → Each (λ x. p (f x) ≡ q x) xs → keep p (map f xs) ≡ map f (keep q xs)

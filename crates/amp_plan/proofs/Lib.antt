@@ -28,4 +28,5 @@ pub mod RestLemmas
 pub mod StartLemmas
 pub mod SplitListLemmas
 pub mod ChainWalkLemmas
-mod TestLemmas
+pub mod TestLemmas
+pub mod Words

@@ -1,20 +1,10 @@
 -- The limits, and the Euler number of the key at which there are too many.
-use Rattle.std.proofs.Common.{◌≡◌, ℕ, zero, suc, ◌+◌, ◌*◌, ◌-◌, ◌/◌, ◌<◌, ◌≤◌, Bool, true, false, ◌&&◌, List, [], ◌∷◌, ◌++◌, length, map, get_or, refl, sym, ◌∙◌, ap, subst, arith}
-use lib.Dec.{ltb, leb}
-use Rattle.std.proofs.lemmas.Bool.{and_parts, ltb-true}
-use Rattle.std.specs.Prelude.{cond, Option, Some, None}
-use Rattle.airy_math.specs.Keys.{Key, key_of, euler}
-use Rattle.airy_math.specs.Shapes.{covers}
-use Rattle.airy_math.specs.Sums.{each, count_from, below}
-use Rattle.airy_math.specs.Tensors.{Tensors}
-use Rattle.airy_math.specs.Planned.{planned, lists_from}
-use Rattle.airy_math.specs.Ranks.{key_at, no_key}
-use Rattle.airy_math.proofs.SumLemmas.{Each, Each-each, Each-below, Each-map, Each-weaken}
-use Rattle.airy_math.proofs.PlannedLaw.{IsListed, listed, Each-keep, level}
-use Rattle.amp_plan.specs.Plans.{Planning, tensors_of, keys_of}
-use Rattle.amp_plan.specs.Limits.{Within, PassesBound, PassesCells, PassesNeeds, limit, limit_of, level_at, past}
-use Rattle.amp_plan.specs.Needs.{need_counts, first_past}
-use Rattle.amp_plan.specs.Listing.{keys_at, level_keys}
+use Rattle.std.proofs.Common.{◌≡◌, ℕ, zero, suc, ◌+◌, ◌*◌, ◌-◌, ◌/◌, ◌<◌, ◌≤◌, Bool, true, false, ◌&&◌, List, [], ◌∷◌, ◌++◌, length, map, get_or, refl, sym, ◌∙◌, ap, subst, arith, ltb, leb, ltb-true, cond, Option, Some, None}
+use Rattle.amp_plan.proofs.Words.{and_parts, Key, key_of, euler, covers, each, count_from, Tensors, planned, lists_from, no_key, Each, Each-each, Each-below, Each-map, Each-weaken, IsListed, Each-keep, Planning, tensors_of, keys_of, PassesBound, PassesCells, PassesNeeds, limit, limit_of, level_at, need_counts, first_past, keys_at, level_keys}
+use Rattle.airy_math.specs.Sums.{below}
+use Rattle.airy_math.specs.Ranks.{key_at}
+use Rattle.airy_math.proofs.PlannedLaw.{listed, level}
+use Rattle.amp_plan.specs.Limits.{Within, past}
 use Rattle.amp_plan.proofs.LevelLemmas.{each-next}
 
 -- ---- a key's place among the levels

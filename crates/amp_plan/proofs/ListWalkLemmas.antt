@@ -1,7 +1,6 @@
 -- A list without an index, and its first run, found from left to right.
-use Rattle.std.proofs.Common.{◌≡◌, ℕ, suc, ◌+◌, ◌<◌, ◌≤◌, Bool, true, false, List, [], ◌∷◌, ◌++◌, length, drop, get_or, refl, sym, ap, ap₂, subst, ◌∙◌, arith, append_assoc}
-use Rattle.std.specs.Prelude.{nat_eq, cond, slice_index}
-use Rattle.std.proofs.lemmas.List.{at_drop_more, at_drop_all, drop-drop}
+use Rattle.std.proofs.Common.{◌≡◌, ℕ, suc, ◌+◌, ◌<◌, ◌≤◌, Bool, true, false, List, [], ◌∷◌, ◌++◌, length, drop, get_or, refl, sym, ap, ap₂, subst, ◌∙◌, arith, append_assoc, nat_eq, cond, slice_index, drop-drop}
+use Rattle.std.proofs.lemmas.List.{at_drop_more, at_drop_all}
 use Rattle.airy_math.specs.Keys.{remove, head_or}
 use Rattle.airy_math.specs.Splits.{runs, into_runs}
 
@@ -79,11 +78,6 @@ pub runs-first : (xs : List ℕ) (n : ℕ) → 0 < length xs → n ≡ lead (hea
 unfolding head_or
 runs-first [] n h e = absurd (omega arith)
 runs-first (x ∷ xs) n h e = runs-lead x xs ∙ ap (λ m. (x, m) ∷ runs (drop m (x ∷ xs))) (sym (e ∙ lead-self x xs))
-
-pub lead-some : (xs : List ℕ) → 0 < length xs → 0 < lead (head_or 0 xs) xs
-unfolding head_or
-lead-some [] h = absurd (omega arith)
-lead-some (x ∷ xs) h = omega (arith, lead-self x xs)
 
 pub head-index : (xs : List ℕ) → head_or 0 xs ≡ slice_index xs 0
 unfolding head_or

@@ -1,24 +1,11 @@
 -- Lists of indices in which those are left out early whose sum can't be one of the window's.
-use Rattle.std.proofs.Common.{◌≡◌, ℕ, zero, suc, ◌+◌, ◌*◌, ◌-◌, ◌<◌, ◌≤◌, Bool, true, false, ◌&&◌, List, [], ◌∷◌, ◌++◌, length, map, refl, sym, ◌∙◌, ap, ap₂, subst, arith, append_assoc, take, length-append}
-use lib.Dec.{leb}
-use Rattle.airy_math.specs.Keys.{Key, key_of, total, IsSortedFrom}
-use Rattle.airy_math.specs.Sums.{keep}
-use Rattle.airy_math.specs.Planned.{lists_from}
-use Rattle.airy_math.proofs.SumLemmas.{Each, Each-weaken}
-use Rattle.airy_math.proofs.KeyLemmas.{Ascending, AllBelow, append-nil}
-use Rattle.airy_math.proofs.PlannedLaw.{IsListed, listed}
-use Rattle.amp_plan.specs.declared.window.Window.{Window}
+use Rattle.std.proofs.Common.{◌≡◌, ℕ, zero, suc, ◌+◌, ◌*◌, ◌-◌, ◌<◌, ◌≤◌, Bool, true, false, ◌&&◌, List, [], ◌∷◌, ◌++◌, length, map, refl, sym, ◌∙◌, ap, ap₂, subst, arith, append_assoc, take, length-append, leb}
+use Rattle.amp_plan.proofs.Words.{Key, key_of, total, IsSortedFrom, keep, lists_from, Each, Each-weaken, Ascending, AllBelow, IsListed, Window, is_in, reaching, keys_behind, found, keep-append}
+use Rattle.airy_math.proofs.KeyLemmas.{append-nil}
+use Rattle.airy_math.proofs.PlannedLaw.{listed}
 use Rattle.amp_plan.specs.declared.listing.Listing.{Listing}
-use Rattle.amp_plan.specs.Listing.{is_in, reaching, keys_behind, found, can_reach}
-
-pub keep-append : {A : Type 0} (p : A → Bool) (xs ys : List A) → keep p (xs ++ ys) ≡ keep p xs ++ keep p ys
-unfolding keep
-keep-append p [] ys = refl
-keep-append p (x ∷ xs) ys = by (p x) (keep-append p xs ys)
-  where
-    by : (t : Bool) → keep p (xs ++ ys) ≡ keep p xs ++ keep p ys → elim t [ true ↦ x ∷ keep p (xs ++ ys) | false ↦ keep p (xs ++ ys) ] ≡ elim t [ true ↦ x ∷ keep p xs | false ↦ keep p xs ] ++ keep p ys
-    by true e = ap (λ l. x ∷ l) e
-    by false e = e
+use Rattle.amp_plan.specs.Listing.{can_reach}
+use Rattle.airy_math.proofs.EachLemmas.{map-append}
 
 pub keep-none : {A : Type 0} (p : A → Bool) (xs : List A) → Each (λ x. p x ≡ false) xs → keep p xs ≡ []
 unfolding keep
@@ -28,10 +15,6 @@ keep-none {A = A} p (x ∷ xs) h = by (p x) h.0 (keep-none p xs h.1)
     by : (t : Bool) → t ≡ false → keep p xs ≡ [] → ◌≡◌ {A = List A} (elim t [ true ↦ x ∷ keep p xs | false ↦ keep p xs ]) []
     by true e r = cc
     by false e r = r
-
-pub map-append : {A B : Type 0} (f : A → B) (xs ys : List A) → map f (xs ++ ys) ≡ map f xs ++ map f ys
-map-append f [] ys = refl
-map-append f (x ∷ xs) ys = ap (λ l. f x ∷ l) (map-append f xs ys)
 
 -- the next index is one of the prefix
 behind-cons : (w : Window) (g : ℕ) (prefix : List ℕ) (k s : ℕ) (ls : List (List ℕ)) → keys_behind g prefix (reaching w s (map (λ l. k ∷ l) ls)) ≡ keys_behind g (prefix ++ k ∷ []) (reaching w (s + k) ls)

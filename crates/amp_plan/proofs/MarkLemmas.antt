@@ -1,14 +1,6 @@
 -- Ranks that are marked, each once.
-use Rattle.std.proofs.Common.{◌≡◌, ℕ, zero, suc, ◌+◌, ◌<◌, ◌≤◌, Bool, true, false, ◌||◌, List, [], ◌∷◌, ◌++◌, length, get_or, set, refl, sym, ◌∙◌, ap, subst, arith, length-set, length-append}
-use Rattle.std.specs.Prelude.{cond}
-use lib.Dec.{eqb}
-use lib.ListN.{replicate}
-use mathlib.Core.Logic.{◌⊎◌, inl, inr}
-use Rattle.std.proofs.lemmas.List.{get_or-set_same, get_or-set_other}
-use Rattle.std.proofs.lemmas.Bool.{eq-eqb, ne_eqb, cases_eq}
-use Rattle.airy_math.specs.Keys.{times}
-use Rattle.amp_plan.specs.Needs.{has}
-use Rattle.amp_plan.specs.Marks.{Marks, IsMarked, marked, with_new, with_all_new}
+use Rattle.std.proofs.Common.{◌≡◌, ℕ, zero, suc, ◌+◌, ◌<◌, ◌≤◌, Bool, true, false, ◌||◌, List, [], ◌∷◌, ◌++◌, length, get_or, set, refl, sym, ◌∙◌, ap, subst, arith, length-set, length-append, cond, eqb, replicate, ◌⊎◌, inl, inr, get_or-set_same, get_or-set_other, eq-eqb, ne_eqb}
+use Rattle.amp_plan.proofs.Words.{cases_eq, times, has, Marks, IsMarked, marked, with_new, with_all_new}
 use Rattle.amp_plan.proofs.RowLemmas.{has-append, has-one}
 
 times-none : (a b : ℕ) (xs : List ℕ) → b < a → ((q : ℕ) → get_or xs q 0 ≤ b) → times a xs ≡ 0

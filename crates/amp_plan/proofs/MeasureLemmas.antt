@@ -1,20 +1,10 @@
 -- Measures of lists: they add up, they say what a shape covers, and they are small.
-use Rattle.std.proofs.Common.{◌≡◌, ℕ, suc, ◌+◌, ◌-◌, ◌*◌, ◌<◌, ◌≤◌, Bool, true, false, List, [], ◌∷◌, ◌++◌, length, length-append, refl, sym, ap, ap₂, ◌∙◌, arith}
-use Rattle.std.specs.Prelude.{ℤ, pos, ◌+ℤ◌, ◌-ℤ◌, ◌*ℤ◌, nat_le, ◌&&◌}
-use Rattle.std.specs.Int.RustNames.{unsigned_abs}
-use Rattle.std.specs.List.{AllByRecursion}
-use lib.Signed.{le_z}
-use Rattle.std.proofs.lemmas.Int.{ints}
+use Rattle.std.proofs.Common.{◌≡◌, ℕ, suc, ◌+◌, ◌-◌, ◌*◌, ◌<◌, ◌≤◌, Bool, true, false, List, [], ◌∷◌, ◌++◌, length, length-append, refl, sym, ap, ap₂, ◌∙◌, arith, ℤ, pos, ◌+ℤ◌, ◌-ℤ◌, ◌*ℤ◌, nat_le, ◌&&◌}
+use Rattle.amp_plan.proofs.Words.{unsigned_abs, AllByRecursion, le_z, ints, Key, total, insert, IsSortedFrom, covers, law_number, eq_z, per_n, Shape, All, Exact, AtMost, list_code-append, list_code-more, list_code-none, list_code-small, Measure, law_excess, covers_excess, IsMeasured, IsLight, length-insert}
 use Rattle.airy_math.specs.Ints.{*ℤ_distrib}
-use Rattle.airy_math.specs.Keys.{Key, total, insert, IsSortedFrom}
-use Rattle.airy_math.specs.Shapes.{covers, law_number, eq_z, per_n}
-use Rattle.airy_math.specs.declared.Shape.{Shape}
-use Rattle.airy_math.specs.declared.Shape.TheVariants.{All, Exact, AtMost}
 use Rattle.key_index.specs.Codes.{code_of_index}
-use Rattle.key_index.proofs.CodeLemmas.{list_code-append, list_code-more, list_code-none, list_code-insert, list_code-small}
-use Rattle.amp_plan.specs.declared.measure.Measure.{Measure}
-use Rattle.amp_plan.specs.Measures.{excess, law_excess, covers_excess, IsMeasured, IsLight}
-use Rattle.amp_plan.proofs.RankWalkLemmas.{length-insert}
+use Rattle.key_index.proofs.CodeLemmas.{list_code-insert}
+use Rattle.amp_plan.specs.Measures.{excess}
 
 -- ---- the excess
 

@@ -1,31 +1,15 @@
 -- The ranks that a key's terms name, marked each once.
-use Rattle.std.proofs.Common.{◌≡◌, ℕ, ◌<◌, Bool, true, false, ◌||◌, List, [], ◌∷◌, ◌++◌, length, map, get_or, refl, sym, ◌∙◌, ap, ap₂, subst, arith}
-use Rattle.std.specs.Prelude.{cond}
-use lib.Dec.{eqb}
-use mathlib.Core.Logic.{◌⊎◌, inl, inr}
-use Rattle.std.proofs.lemmas.Bool.{eqb-true, eq-eqb, ne_eqb, cases_eq}
-use Rattle.airy_math.specs.Sums.{each}
-use Rattle.airy_math.specs.Keys.{Key, head_or, remove}
-use Rattle.airy_math.specs.Tensors.{Tensors}
-use Rattle.airy_math.specs.Terms.{Term, terms, named, needs, StandsIn}
+use Rattle.std.proofs.Common.{◌≡◌, ℕ, ◌<◌, Bool, true, false, ◌||◌, List, [], ◌∷◌, ◌++◌, length, map, get_or, refl, sym, ◌∙◌, ap, ap₂, subst, arith, cond, eqb, ◌⊎◌, inl, inr, eqb-true, eq-eqb, ne_eqb}
+use Rattle.amp_plan.proofs.Words.{cases_eq, each, Key, head_or, remove, Tensors, terms, needs, StandsIn, planned, place_of, no_key, ListsPlanned, NeedsComeFirst, get_or_read, Planning, tensors_of, keys_of, rank_at, RankedTerm, ranked, ranks_of, all_ranked, after_terms, AreAllowed, NameAllowed, has, named_ranks, needs_rank, AreDistinct, Marks, marked, marked_term, with_new, with_all_new, AreNamed}
+use Rattle.airy_math.specs.Terms.{Term, named}
 use Rattle.airy_math.specs.Terms as math
-use Rattle.airy_math.specs.Planned.{planned}
-use Rattle.airy_math.specs.Ranks.{place_of, key_at, no_key, ListsPlanned}
-use Rattle.airy_math.specs.NeedsFirst.{NeedsComeFirst, ComesFirst}
-use Rattle.std.proofs.lemmas.List.{get_or_read}
-use Rattle.amp_plan.specs.Plans.{Planning, tensors_of, keys_of, rank_at}
-use Rattle.amp_plan.specs.Ranked.{RankedTerm, ranked, ranks_of, all_ranked, after_terms, AreAllowed, NameAllowed}
-use Rattle.amp_plan.specs.Needs.{has, named_ranks, needs_rank}
-use Rattle.amp_plan.specs.Rows.{AreDistinct}
-use Rattle.amp_plan.specs.Marks.{Marks, marked, marked_term, with_new, with_all_new, AreNamed}
+use Rattle.airy_math.specs.Ranks.{key_at}
+use Rattle.airy_math.specs.NeedsFirst.{ComesFirst}
 use Rattle.amp_plan.proofs.RowLemmas.{has-append, has-one}
 use Rattle.amp_plan.proofs.MarkLemmas.{marked-append, marked-nil}
+use Rattle.airy_math.proofs.EachLemmas.{map-append}
 
 -- ---- ranks of terms
-
-map-append : {A B : Type 0} (f : A → B) (xs ys : List A) → map f (xs ++ ys) ≡ map f xs ++ map f ys
-map-append f [] ys = refl
-map-append f (x ∷ xs) ys = ap (λ l. f x ∷ l) (map-append f xs ys)
 
 ranks-ranked : (rank : Key → ℕ) (t : Term) → ranks_of (ranked rank t) ≡ map rank (named t)
 unfolding ranks_of ranked named
@@ -41,13 +25,13 @@ ranks-all_ranked rank (t ∷ ts) = ap₂ ◌++◌ (ranks-ranked rank t) (ranks-a
 
 -- ---- allowed ranks
 
-stands-left : (k : Key) (xs ys : List Key) → StandsIn k xs → StandsIn k (xs ++ ys)
+pub stands-left : (k : Key) (xs ys : List Key) → StandsIn k xs → StandsIn k (xs ++ ys)
 unfolding StandsIn
 stands-left k [] ys h = absurd h
 stands-left k (x ∷ xs) ys (inl e) = inl e
 stands-left k (x ∷ xs) ys (inr h) = inr (stands-left k xs ys h)
 
-stands-right : (k : Key) (xs ys : List Key) → StandsIn k ys → StandsIn k (xs ++ ys)
+pub stands-right : (k : Key) (xs ys : List Key) → StandsIn k ys → StandsIn k (xs ++ ys)
 unfolding StandsIn
 stands-right k [] ys h = h
 stands-right k (x ∷ xs) ys h = inr (stands-right k xs ys h)

@@ -1,18 +1,11 @@
 -- What the needs of a plan are: lower ranks, of the keys that are named, and the converse of the dependents.
-use Rattle.std.proofs.Common.{◌≡◌, ℕ, zero, suc, ◌<◌, ◌≤◌, Bool, true, false, ◌||◌, ◌&&◌, List, [], ◌∷◌, length, map, get_or, refl, sym, ◌∙◌, ap, subst, arith}
-use Rattle.std.specs.Prelude.{cond}
-use lib.Dec.{eqb, ltb}
-use mathlib.Core.Logic.{◌⊎◌, inl, inr}
-use Rattle.std.proofs.lemmas.Bool.{eq-eqb, ne_eqb, cases_eq, cases_order, ltb-true, eqb-true}
-use Rattle.airy_math.specs.Sums.{keep, below, count_from}
-use Rattle.airy_math.specs.Keys.{Key, before, euler}
-use Rattle.airy_math.specs.Levels.{euler_of, Ascends}
-use Rattle.airy_math.specs.NeedsFirst.{NeedsComeFirst}
-use Rattle.airy_math.specs.Tensors.{Tensors}
-use Rattle.airy_math.specs.Terms.{needs, StandsIn}
-use Rattle.airy_math.specs.Planned.{planned}
-use Rattle.airy_math.specs.Ranks.{place_of, key_at, no_key, ListsPlanned}
-use Rattle.amp_plan.specs.Needs.{has, named_ranks, needs_rank, needed, resting, Climbs, AreNeeds}
+use Rattle.std.proofs.Common.{◌≡◌, ℕ, zero, suc, ◌<◌, ◌≤◌, Bool, true, false, ◌||◌, ◌&&◌, List, [], ◌∷◌, length, map, get_or, refl, sym, ◌∙◌, ap, subst, arith, cond, eqb, ltb, ◌⊎◌, inl, inr, eq-eqb, ne_eqb, ltb-true, eqb-true}
+use Rattle.amp_plan.proofs.Words.{cases_eq, cases_order, keep, count_from, Key, euler, euler_of, NeedsComeFirst, Tensors, needs, StandsIn, planned, place_of, no_key, ListsPlanned, has, named_ranks, needs_rank, needed, resting}
+use Rattle.airy_math.specs.Sums.{below}
+use Rattle.airy_math.specs.Keys.{before}
+use Rattle.airy_math.specs.Levels.{Ascends}
+use Rattle.airy_math.specs.Ranks.{key_at}
+use Rattle.amp_plan.specs.Needs.{Climbs, AreNeeds}
 use Rattle.amp_plan.proofs.GraphLemmas.{keep-row, has-below}
 
 -- ---- ranks of keys

@@ -1,21 +1,16 @@
 -- The parts in which the terms are walked over are the terms.
-use Rattle.std.proofs.Common.{◌≡◌, ℕ, suc, ◌-◌, ◌<◌, Bool, true, false, List, [], ◌∷◌, ◌++◌, map, length, Some, None, refl, sym, ap, ap₂, subst, ◌∙◌, arith}
-use Rattle.std.specs.Prelude.{cond, nat_eq, nat_lt, ◌&&◌, slice_index}
+use Rattle.std.proofs.Common.{◌≡◌, ℕ, suc, ◌-◌, ◌<◌, Bool, true, false, List, [], ◌∷◌, ◌++◌, map, length, Some, None, refl, ap, ap₂, ◌∙◌, arith, cond, nat_eq, nat_lt, ◌&&◌, slice_index}
 use Rattle.std.proofs.lemmas.List.{map-append}
-use Rattle.airy_math.specs.Rational.{ℚ, whole}
-use Rattle.airy_math.specs.Keys.{Key, key_of, euler, insert, remove, times, more}
-use Rattle.airy_math.specs.Shapes.{live}
-use Rattle.airy_math.specs.Splits.{runs, splits}
-use Rattle.airy_math.specs.Sums.{each, below}
-use Rattle.airy_math.specs.Tensors.{Tensors, row_b, row_c}
+use Rattle.amp_plan.proofs.Words.{ℚ, Key, key_of, euler, insert, remove, times, live, splits, each, Tensors, row_b, row_c, terms, obtained_half, IsPlanned, Planning, tensors_of, rank_at, RankedTerm, Alone, Once, Joined, Twice, ranked, all_ranked, HasRoom, live_rank, for_rank, for_ranks, once_part, run_part, b_part, joined_part, split_part, genus_part, product_part, entry_part, c_part}
+use Rattle.airy_math.specs.Rational.{whole}
+use Rattle.airy_math.specs.Keys.{more}
+use Rattle.airy_math.specs.Splits.{runs}
+use Rattle.airy_math.specs.Sums.{below}
 use Rattle.airy_math.specs.Terms as math
-use Rattle.airy_math.specs.Terms.{if_so, b_terms, joined_terms, product_terms, c_terms, terms, obtained_half}
-use Rattle.airy_math.specs.Planned.{IsPlanned}
+use Rattle.airy_math.specs.Terms.{if_so, b_terms, joined_terms, product_terms, c_terms}
 use Rattle.airy_math.proofs.PivotLaw.{terms-other}
-use Rattle.amp_plan.specs.Plans.{Planning, tensors_of, rank_at}
-use Rattle.amp_plan.specs.Ranked.{RankedTerm, Alone, Once, Joined, Twice, ranked, all_ranked}
-use Rattle.amp_plan.specs.Walk.{HasRoom, live_rank, for_rank, for_ranks, once_part, run_part, b_part, joined_part, split_part, genus_part, product_part, entry_part, c_part}
 use Rattle.amp_plan.proofs.RankWalkLemmas.{sorted-remove}
+use Rattle.airy_math.proofs.EachLemmas.{each-cong}
 
 -- ---- lists
 
@@ -24,15 +19,15 @@ unfolding each
 map-each h f [] = refl
 map-each h f (x ∷ xs) = map-append h (f x) (each xs f) ∙ ap (λ l. map h (f x) ++ l) (map-each h f xs)
 
-each-cong : {A B : Type 0} (f h : A → List B) (xs : List A) → ((x : A) → f x ≡ h x) → each xs f ≡ each xs h
-unfolding each
-each-cong f h [] e = refl
-each-cong f h (x ∷ xs) e = ap₂ ◌++◌ (e x) (each-cong f h xs e)
-
 mapped : {A B C : Type 0} (h : B → C) (f : A → List B) (k : A → List C) (xs : List A) → ((x : A) → map h (f x) ≡ k x) → map h (each xs f) ≡ each xs k
 mapped h f k xs e = map-each h f xs ∙ each-cong (λ x. map h (f x)) k xs e
 
 -- ---- parts
+
+-- neither of the two cases with one term
+pub record IsOther (g : ℕ) (I : List ℕ) : Type 0 where
+  pub not_three : g ≡ 0 → length I ≡ 2 → ⊥
+  pub not_one : g ≡ 1 → length I ≡ 0 → ⊥
 
 module _ (p : Planning) where
   abbrev to_rank : math.Term → RankedTerm
@@ -85,10 +80,10 @@ module _ (p : Planning) where
       ∙ ap₂ ◌++◌ (joined_is (nat_lt 0 g) (key_of (g - 1) (insert e.0 (insert e.1 I))) (nat_eq e.0 e.1) e.2) (product_is g I e.0 e.1 e.2))
 
   -- the terms are the B terms and the C terms
-  pub other_parts : (i g : ℕ) (I : List ℕ) → (g ≡ 0 → length I ≡ 2 → ⊥) → (g ≡ 1 → length I ≡ 0 → ⊥) → all_ranked (rank_at p) (terms (tensors_of p) i g I) ≡ b_part p i g I ++ c_part p i g I
+  pub other_parts : (i : ℕ) {g : ℕ} {I : List ℕ} → IsOther g I → all_ranked (rank_at p) (terms (tensors_of p) i g I) ≡ b_part p i g I ++ c_part p i g I
   unfolding all_ranked
-  other_parts i g I h k =
-      ap (map to_rank) (terms-other (tensors_of p) i g I h k)
+  other_parts i {g} {I} o =
+      ap (map to_rank) (terms-other (tensors_of p) i g I o.not_three o.not_one)
       ∙ map-append to_rank (b_terms (tensors_of p) i g I) (c_terms (tensors_of p) i g I)
       ∙ ap₂ ◌++◌ (b_is i g I) (c_is i g I)
 
@@ -119,23 +114,3 @@ length-without i (x ∷ xs) h = by (nat_eq i x) h (length-without i xs)
 pub room_planned : (T : Tensors) (X : ℕ) (key : Key) (i : ℕ) → IsPlanned T X key → 0 < times i key.idx → HasRoom T X key.g (remove i key.idx)
 unfolding euler
 room_planned T X key i h s = record { sorted = sorted-remove T.dim i key.idx h.sorted; level = omega (arith, h.within, h.positive, length-without i key.idx s) }
-
--- ---- as the walk has them: a genus and a list that are those of the key
-
-pub record AreRest (g g' : ℕ) (I I' : List ℕ) : Type 0 where
-  pub genus : g ≡ g'
-  pub list : I ≡ I'
-
-pub terms_same : (p : Planning) (i g g' : ℕ) (I I' : List ℕ) → AreRest g g' I I' → all_ranked (rank_at p) (terms (tensors_of p) i g' I') ≡ all_ranked (rank_at p) (terms (tensors_of p) i g I)
-terms_same p i g g' I I' e = sym (ap₂ (λ g I. all_ranked (rank_at p) (terms (tensors_of p) i g I)) e.genus e.list)
-
-pub room_same : (T : Tensors) (X g g' : ℕ) (I I' : List ℕ) → AreRest g g' I I' → HasRoom T X g' I' → HasRoom T X g I
-room_same T X g g' I I' e h = subst (λ z. HasRoom T X z I) (sym e.genus) (subst (HasRoom T X g') (sym e.list) h)
-
--- neither of the two cases with one term
-pub record IsOther (g : ℕ) (I : List ℕ) : Type 0 where
-  pub not_three : g ≡ 0 → length I ≡ 2 → ⊥
-  pub not_one : g ≡ 1 → length I ≡ 0 → ⊥
-
-pub rest_parts : (p : Planning) (i g g' : ℕ) (I I' : List ℕ) → AreRest g g' I I' → IsOther g I → all_ranked (rank_at p) (terms (tensors_of p) i g' I') ≡ b_part p i g I ++ c_part p i g I
-rest_parts p i g g' I I' e h = terms_same p i g g' I I' e ∙ other_parts p i g I h.not_three h.not_one

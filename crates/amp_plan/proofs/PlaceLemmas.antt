@@ -1,23 +1,7 @@
 -- Where a key stands in a plan.
-use Prim.Native.Nat.{ℕ, ◌<◌, ◌≤◌}
-use mathlib.Core.Path.{◌≡◌, refl, sym, ap, ◌∙◌}
-use mathlib.Core.Bool.{Bool, true, false, cond}
-use mathlib.Core.List.{List, [], ◌∷◌}
-use native.Mathlib.Omega.{arith}
-use lib.Dec.{ltb}
-use lib.ListN.{length}
-use Rattle.std.proofs.lemmas.Bool.{and_parts, ltb-true, ltb-false}
-use Rattle.airy_math.specs.Keys.{Key, euler, IsSortedFrom}
-use Rattle.airy_math.specs.Shapes.{covers}
-use Rattle.airy_math.specs.Levels.{euler_of}
-use Rattle.airy_math.specs.Planned.{IsPlanned}
-use Rattle.airy_math.specs.Ranks.{ListsPlanned}
-use Rattle.airy_index.specs.Fields.{IsKey}
-use Rattle.sparse_tensor.specs.Entries.{looked_up}
-use Rattle.amp_plan.specs.Plans.{Planning, tensors_of, keys_of, rank_at, key_at}
-use Rattle.amp_plan.specs.Places.{place_in, are_below}
-use Rattle.amp_plan.specs.declared.place.Place.{Place}
-use Rattle.amp_plan.specs.declared.place.Place.TheVariants.{At, Zero, Beyond, BadIndex}
+use Rattle.std.proofs.Common.{ℕ, ◌<◌, ◌≤◌, ◌≡◌, refl, ap, ◌∙◌, Bool, true, false, cond, List, [], ◌∷◌, arith, ltb, length, ltb-true, ltb-false}
+use Rattle.amp_plan.proofs.Words.{and_parts, Key, euler, IsSortedFrom, covers, IsPlanned, ListsPlanned, IsKey, looked_up, Planning, tensors_of, keys_of, rank_at, place_in, are_below, At, Zero, Beyond, BadIndex}
+use Rattle.amp_plan.specs.Plans.{key_at}
 
 -- what it takes to be at a rank
 pub record IsPlace (p : Planning) (key : Key) (r : ℕ) : Type 0 where

@@ -1,16 +1,7 @@
 -- Where a key stands, case by case.
-use Rattle.std.proofs.Common.{◌≡◌, ℕ, ◌≤◌, true, false, List, [], ◌∷◌, length, refl, arith}
-use lib.Dec.{ltb}
-use Rattle.airy_math.specs.Keys.{Key, euler, IsSortedFrom}
-use Rattle.airy_math.specs.Planned.{IsPlanned}
-use Rattle.airy_index.specs.Fields.{IsKey}
-use Rattle.sparse_tensor.specs.Entries.{looked_up}
-use Rattle.std.proofs.lemmas.Bool.{and_parts, ltb-true}
-use Rattle.airy_math.specs.Shapes.{covers}
-use Rattle.airy_math.specs.Cuts.{letter_of}
-use Rattle.amp_plan.specs.Plans.{Planning, tensors_of, rank_at}
-use Rattle.amp_plan.specs.Places.{place_in, are_below, letter_power}
-use Rattle.amp_plan.specs.declared.place.Place.TheVariants.{At, Zero, Beyond, BadIndex}
+use Rattle.std.proofs.Common.{◌≡◌, ◌≤◌, true, false, length, refl, arith, ltb}
+use Rattle.amp_plan.proofs.Words.{Key, euler, IsPlanned, IsKey, looked_up, covers, letter_of, Planning, tensors_of, rank_at, place_in, are_below, letter_power, At, Zero, Beyond, BadIndex}
+use Rattle.amp_plan.proofs.PlaceLemmas.{sorted_below}
 
 pub beyond : (p : Planning) (key : Key) → ltb p.bound (euler key.g (length key.idx)) ≡ true → place_in p key ≡ Beyond
 unfolding place_in
@@ -37,11 +28,6 @@ unfolding letter_power
 with_letter p key e = rw e refl
 
 -- ---- a key that is planned
-
-sorted_below : (k m dim : ℕ) (xs : List ℕ) → IsSortedFrom k m xs → are_below dim xs ≡ true → IsSortedFrom k dim xs
-unfolding IsSortedFrom are_below
-sorted_below k m dim [] s b = tt
-sorted_below k m dim (x ∷ xs) s b = let h = and_parts (ltb x dim) (are_below dim xs) b in (s.0, ltb-true x dim h.0, sorted_below x m dim xs s.2 h.1)
 
 pub planned_there : (p : Planning) (key : Key) → IsKey key.g key.idx → euler key.g (length key.idx) ≤ p.bound → covers p.tensors.shape key ≡ true → are_below p.tensors.dim key.idx ≡ true → IsPlanned (tensors_of p) p.bound key
 unfolding tensors_of looked_up euler

@@ -1,34 +1,11 @@
 -- The rank of a live key, found by making the key and looking it up.
-use Rattle.std.proofs.Common.{◌≡◌, ℕ, suc, zero, ◌+◌, ◌-◌, ◌<◌, ◌≤◌, Bool, true, false, List, [], ◌∷◌, ◌++◌, length, map, get_or, append_assoc, append-nil, refl, sym, ap, subst, ◌∙◌, arith, Option, Some, None, Result, Ok, Err}
-use Rattle.std.specs.Prelude.{cond, nat_lt, nat_le, nat_eq}
-use Rattle.std.proofs.lemmas.Bool.{and_from, lt-ltb, le-ltb, leb-true}
-use Rattle.airy_math.specs.Keys.{Key, key_of, euler, stable, insert, remove, ordered, ordered_with, IsSortedFrom}
-use Rattle.airy_math.specs.Shapes.{covers, live}
-use Rattle.airy_math.proofs.KeyLemmas.{Ascending, AllBelow}
+use Rattle.std.proofs.Common.{◌≡◌, ℕ, suc, zero, ◌-◌, ◌<◌, ◌≤◌, Bool, true, false, List, [], ◌∷◌, ◌++◌, length, map, get_or, refl, sym, ap, subst, ◌∙◌, arith, Option, Some, None, Result, Ok, Err, cond, nat_lt, nat_eq, lt-ltb, le-ltb}
+use Rattle.amp_plan.proofs.Words.{and_from, Key, key_of, euler, stable, insert, remove, ordered, ordered_with, IsSortedFrom, covers, live, Ascending, AllBelow, ascending, Each-keep, KeyErr, NoPlace, TooMany, Unstable, ℚ, each, Tensors, row_b, row_c, Each, Each-map, Each-each, Each-below, looked_up, Planning, tensors_of, rank_at, are_below, place_in, At, Zero, HasRoom, live_rank, length-insert, length-ordered, ordered-sorted}
 use Rattle.airy_math.proofs.MoveLemmas.{ascending-insert, ascending-remove, all_below-insert, all_below-remove}
-use Rattle.airy_math.proofs.PlannedLaw.{ascending, small, Each-keep}
-use Rattle.airy_index.specs.declared.key.KeyErr.{KeyErr}
-use Rattle.airy_index.specs.declared.key.KeyErr.TheVariants.{NoPlace, TooMany, Unstable}
-use Rattle.airy_math.specs.Rational.{ℚ}
-use Rattle.airy_math.specs.Sums.{each, below}
-use Rattle.airy_math.specs.Tensors.{Tensors, row_b, row_c}
-use Rattle.airy_math.proofs.SumLemmas.{Each, Each-map, Each-each, Each-below}
-use Rattle.sparse_tensor.specs.Entries.{looked_up}
-use Rattle.amp_plan.specs.Plans.{Planning, tensors_of, rank_at}
-use Rattle.amp_plan.specs.Places.{are_below, place_in}
-use Rattle.amp_plan.specs.declared.place.Place.TheVariants.{At, Zero}
-use Rattle.amp_plan.specs.Walk.{HasRoom, live_rank}
+use Rattle.airy_math.proofs.PlannedLaw.{small}
+use Rattle.airy_math.specs.Sums.{below}
 
 -- ---- lists
-
-pub length-insert : (a : ℕ) (xs : List ℕ) → length (insert a xs) ≡ suc (length xs)
-unfolding insert
-length-insert a [] = refl
-length-insert a (x ∷ xs) = by (nat_le a x) (length-insert a xs)
-  where
-    by : (t : Bool) → length (insert a xs) ≡ suc (length xs) → length {A = ℕ} (elim t [ true ↦ a ∷ x ∷ xs | false ↦ x ∷ insert a xs ]) ≡ suc (suc (length xs))
-    by true h = refl
-    by false h = ap suc h
 
 ordered_with-push : (done xs : List ℕ) (x : ℕ) → ordered_with done (xs ++ x ∷ []) ≡ insert x (ordered_with done xs)
 unfolding ordered_with
@@ -39,66 +16,10 @@ pub ordered-push : (xs : List ℕ) (x : ℕ) → ordered (xs ++ x ∷ []) ≡ in
 unfolding ordered
 ordered-push xs x = ordered_with-push [] xs x
 
-length-ordered_with : (done xs : List ℕ) → length (ordered_with done xs) ≡ length done + length xs
-unfolding ordered_with
-length-ordered_with done [] = omega arith
-length-ordered_with done (x ∷ xs) = omega (arith, length-ordered_with (insert x done) xs, length-insert x done)
-
-pub length-ordered : (xs : List ℕ) → length (ordered xs) ≡ length xs
-unfolding ordered
-length-ordered xs = omega (arith, length-ordered_with [] xs)
-
 all_are_below : (dim : ℕ) (xs : List ℕ) → AllBelow dim xs → are_below dim xs ≡ true
 unfolding are_below
 all_are_below dim [] h = refl
 all_are_below dim (x ∷ xs) h = and_from (nat_lt x dim) (are_below dim xs) (lt-ltb x dim h.0) (all_are_below dim xs h.1)
-
-insert-first : (y m : ℕ) (xs : List ℕ) → IsSortedFrom y m xs → insert y xs ≡ y ∷ xs
-unfolding insert IsSortedFrom
-insert-first y m [] s = refl
-insert-first y m (z ∷ zs) s = let t : nat_le y z ≡ true = grind arith in rw (t, insert) refl
-
-behind_all : (k m y : ℕ) (xs ys : List ℕ) → IsSortedFrom k m (xs ++ y ∷ ys) → k ≤ y
-unfolding IsSortedFrom
-behind_all k m y [] ys s = s.0
-behind_all k m y (x ∷ xs) ys s = omega (arith, s.0, behind_all x m y xs ys s.2)
-
-sorted-front : (k m : ℕ) (xs ys : List ℕ) → IsSortedFrom k m (xs ++ ys) → IsSortedFrom k m xs
-unfolding IsSortedFrom
-sorted-front k m [] ys s = tt
-sorted-front k m (x ∷ xs) ys s = (s.0, s.1, sorted-front x m xs ys s.2)
-
-insert-same : (m x y : ℕ) (xs : List ℕ) → x ≡ y → IsSortedFrom x m xs → insert y xs ≡ xs ++ y ∷ [] → ◌≡◌ {A = List ℕ} (y ∷ x ∷ xs) (x ∷ xs ++ y ∷ [])
-insert-same m x y xs e s h =
-    ap (λ z. y ∷ z ∷ xs) e
-    ∙ ap (λ l. y ∷ l) (sym (insert-first y m xs (subst (λ z. IsSortedFrom z m xs) e s)) ∙ h)
-    ∙ ap (λ z. z ∷ xs ++ y ∷ []) (sym e)
-
--- what stands behind all of a sorted list is put at its end
-insert-last : (k m y : ℕ) (xs ys : List ℕ) → IsSortedFrom k m (xs ++ y ∷ ys) → insert y xs ≡ xs ++ y ∷ []
-unfolding insert IsSortedFrom
-insert-last k m y [] ys s = refl
-insert-last k m y (x ∷ xs) ys s = by (nat_le y x) refl (insert-last x m y xs ys s.2)
-  where
-    least : x ≤ y
-    least = behind_all x m y xs ys s.2
-
-    by : (t : Bool) → nat_le y x ≡ t → insert y xs ≡ xs ++ y ∷ [] → ◌≡◌ {A = List ℕ} (elim t [ true ↦ y ∷ x ∷ xs | false ↦ x ∷ insert y xs ]) (x ∷ xs ++ y ∷ [])
-    by true e h = let l : y ≤ x = leb-true y x e in insert-same m x y xs (omega (arith, least)) (sorted-front x m xs (y ∷ ys) s.2) h
-    by false e h = ap (λ l. x ∷ l) h
-
-ordered_with-sorted : (k m : ℕ) (done xs : List ℕ) → IsSortedFrom k m (done ++ xs) → ordered_with done xs ≡ done ++ xs
-unfolding ordered_with
-ordered_with-sorted k m done [] s = sym (append-nil done)
-ordered_with-sorted k m done (x ∷ xs) s =
-    let e = insert-last k m x done xs s in
-    let again = append_assoc done (x ∷ []) xs in
-    ap (λ l. ordered_with l xs) e ∙ ordered_with-sorted k m (done ++ x ∷ []) xs (subst (IsSortedFrom k m) (sym again) s) ∙ again
-
--- a sorted list is in order
-pub ordered-sorted : (k m : ℕ) (xs : List ℕ) → IsSortedFrom k m xs → ordered xs ≡ xs
-unfolding ordered
-ordered-sorted k m xs s = ordered_with-sorted k m [] xs s
 
 -- ---- the bound
 
@@ -190,12 +111,9 @@ room_ordered {T} {X} {g} {J} h = subst (HasRoom T X g) (sym (ordered-sorted 0 T.
 pub rank_ordered : (p : Planning) (g x : ℕ) (J : List ℕ) (r : Option ℕ) → HasRoom (tensors_of p) p.bound g J → r ≡ live_rank p (key_of g (insert x (ordered J))) → r ≡ live_rank p (key_of g (insert x J))
 rank_ordered p g x J r h e = e ∙ ap (λ l. live_rank p (key_of g (insert x l))) (ordered-sorted 0 (tensors_of p).dim J h.sorted)
 
--- A rank that was looked for: that of the live key of the list with x in its place.
-pub record IsFound (p : Planning) (g x : ℕ) (J : List ℕ) (r : Option ℕ) : Type 0 where
-  pub is : r ≡ live_rank p (key_of g (insert x J))
-
-pub found_beside : {p : Planning} {g x : ℕ} {J slice : List ℕ} {r : Option ℕ} → slice ≡ J → HasRoom (tensors_of p) p.bound g J → r ≡ live_rank p (key_of g (insert x (ordered slice))) → IsFound p g x J r
-found_beside {p} {g} {x} {J} {slice} {r} e h q = record { is = rank_ordered p g x J r h (q ∙ ap (λ l. live_rank p (key_of g (insert x (ordered l)))) e) }
+-- the rank that is found for what is a list in order
+pub found_beside : (p : Planning) (x : ℕ) {g : ℕ} {J slice : List ℕ} {r : Option ℕ} → slice ≡ J → HasRoom (tensors_of p) p.bound g J → r ≡ live_rank p (key_of g (insert x (ordered slice))) → r ≡ live_rank p (key_of g (insert x J))
+found_beside p x {g} {J} {slice} {r} e h q = rank_ordered p g x J r h (q ∙ ap (λ l. live_rank p (key_of g (insert x (ordered l)))) e)
 
 -- ---- lists with one more or one less
 

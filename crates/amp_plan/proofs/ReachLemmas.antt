@@ -1,29 +1,10 @@
 -- How far the excess of a part reaches, and which parts are passed over.
-use Rattle.std.proofs.Common.{◌≡◌, ℕ, zero, suc, ◌+◌, ◌-◌, ◌*◌, ◌<◌, ◌≤◌, ◌^◌, Bool, true, false, List, [], ◌∷◌, ◌++◌, length, map, Some, None, refl, sym, subst, ◌∙◌, arith}
-use Rattle.std.specs.Prelude.{ℤ, pos, negsuc, ◌+ℤ◌, ◌-ℤ◌, cond}
-use Rattle.std.specs.Int.RustNames.{unsigned_abs}
-use Rattle.std.specs.List.{AllByRecursion}
-use lib.ListN.{replicate}
-use lib.Signed.{◌≤ℤ◌}
-use Rattle.std.proofs.lemmas.Int.{ints}
-use Rattle.std.proofs.lemmas.Bool.{and_parts, false≢true}
-use Rattle.airy_math.specs.Cuts.{natural}
-use Rattle.airy_math.specs.Keys.{Key, key_of, insert, stable}
+use Rattle.std.proofs.Common.{◌≡◌, ℕ, zero, suc, ◌+◌, ◌-◌, ◌*◌, ◌<◌, ◌≤◌, ◌^◌, Bool, true, false, List, [], ◌∷◌, ◌++◌, length, map, Some, None, refl, sym, subst, ◌∙◌, arith, ℤ, pos, negsuc, ◌+ℤ◌, ◌-ℤ◌, cond, replicate, ◌≤ℤ◌}
+use Rattle.amp_plan.proofs.Words.{unsigned_abs, AllByRecursion, ints, and_parts, false≢true, natural, Key, key_of, insert, stable, covers, live, eq_z, per_n, Split, Shape, All, Exact, AtMost, put_before, chosen_split, all_splits, looked_up, Planning, tensors_of, rank_at, RankedTerm, Twice, split_part, live_rank, for_ranks, law_excess, covers_excess, choice_part, IsShare, FitsShare, IsChosen, Share, Chosen}
 use Rattle.airy_math.specs.Rational.{whole}
-use Rattle.airy_math.specs.Shapes.{covers, live, eq_z, per_n}
-use Rattle.airy_math.specs.Splits.{Split}
 use Rattle.airy_math.specs.Sums.{below}
-use Rattle.airy_math.specs.declared.Shape.{Shape}
-use Rattle.airy_math.specs.declared.Shape.TheVariants.{All, Exact, AtMost}
-use Rattle.airy_index.specs.Choices.{put_before, chosen_split, all_splits}
-use Rattle.sparse_tensor.specs.Entries.{looked_up}
-use Rattle.amp_plan.specs.Plans.{Planning, tensors_of, rank_at}
-use Rattle.amp_plan.specs.Ranked.{RankedTerm, Twice}
-use Rattle.amp_plan.specs.Walk.{split_part, live_rank, for_ranks}
-use Rattle.amp_plan.specs.Measures.{excess, gain, loss, law_excess, covers_excess}
-use Rattle.amp_plan.specs.Shares.{behind, listed, choice_part, can_reach, IsShare, FitsShare, IsChosen}
-use Rattle.amp_plan.specs.declared.share.Share.{Share}
-use Rattle.amp_plan.specs.declared.share.Chosen.{Chosen}
+use Rattle.amp_plan.specs.Measures.{excess, gain, loss}
+use Rattle.amp_plan.specs.Shares.{behind, listed, can_reach}
 use Rattle.amp_plan.proofs.ChoiceLemmas.{each-none, all-weaken, all-both, all-map, all-counting}
 use Rattle.amp_plan.proofs.MeasureLemmas.{excess-append, excess-insert, excess-small, covers-excess, AreBytes, bytes_below}
 
@@ -132,9 +113,9 @@ none_live p h left c s u is k e f i =
     (subst (λ n. excess h.per_n u.part ≤ℤ pos n) (sym k.gain) i.most) (subst (λ n. pos 0 ≤ℤ (excess h.per_n u.part +ℤ pos n)) (sym k.loss) i.least)))
 
 -- where the part's excess can't come between the share's two numbers, there is no product
-pub passed_over : (p : Planning) (h : Share) (left : List (ℕ × ℕ)) (c : Chosen) (s : Split) → IsShare p h → IsChosen p h left c s → can_reach h c ≡ false → choice_part p h s left ≡ []
+pub passed_over : {p : Planning} {h : Share} {left : List (ℕ × ℕ)} {c : Chosen} {s : Split} → IsShare p h → IsChosen p h left c s → can_reach h c ≡ false → choice_part p h s left ≡ []
 unfolding choice_part
-passed_over p h left c s is k e =
+passed_over {p} {h} {left} {c} {s} is k e =
     each-none (λ u. split_part p h.genus h.pair.a h.pair.b h.pair.weight h.k (behind s u)) (all_splits left)
     (all-both (λ u. FitsShare p h (behind s u)) (IsShared h.per_n (listed left)) (λ u. split_part p h.genus h.pair.a h.pair.b h.pair.weight h.k (behind s u) ≡ []) (all_splits left)
     (λ u f i. none_live p h left c s u is k e f i) k.fits (shared h.per_n left))

@@ -1,21 +1,11 @@
 -- What is read of a list, one index after the other.
-use Rattle.std.proofs.Common.{◌≡◌, ℕ, zero, suc, ◌+◌, ◌-◌, ◌*◌, ◌<◌, ◌≤◌, Bool, true, false, List, [], ◌∷◌, ◌++◌, length, map, length-append, append_assoc, refl, sym, ap, subst, ◌∙◌, arith}
-use Rattle.std.specs.Prelude.{ℤ, pos, negsuc, ◌+ℤ◌, ◌-ℤ◌, nat_eq}
-use Rattle.std.specs.Int.RustNames.{unsigned_abs}
-use Rattle.std.specs.List.{AllByRecursion}
-use lib.ListN.{replicate}
-use Rattle.std.proofs.lemmas.Int.{ints}
-use Rattle.airy_math.specs.Cuts.{natural}
-use Rattle.airy_math.specs.Splits.{runs, into_runs, splits}
+use Rattle.std.proofs.Common.{◌≡◌, ℕ, zero, suc, ◌+◌, ◌-◌, ◌*◌, ◌<◌, ◌≤◌, Bool, true, false, List, [], ◌∷◌, ◌++◌, length, map, length-append, append_assoc, refl, sym, ap, subst, ◌∙◌, arith, ℤ, pos, negsuc, ◌+ℤ◌, ◌-ℤ◌, nat_eq, replicate}
+use Rattle.amp_plan.proofs.Words.{unsigned_abs, AllByRecursion, ints, natural, into_runs, splits, put_before, chosen_split, all_splits, whole_length, splits-all, code_of_list, list_code-append, list_code-more, list_code-none, IsMeasured, IsLight, Measure}
+use Rattle.airy_math.specs.Splits.{runs}
 use Rattle.airy_math.specs.Sums.{below}
-use Rattle.airy_index.specs.Choices.{put_before, chosen_split, all_splits, whole_length}
-use Rattle.airy_index.proofs.ChoiceLemmas.{splits-all}
 use Rattle.airy_index.proofs.RunLemmas.{whole_length-runs}
-use Rattle.key_index.specs.Codes.{code_of_list}
-use Rattle.key_index.proofs.CodeLemmas.{list_code-append, list_code-more, list_code-none}
-use Rattle.amp_plan.specs.Measures.{excess, gain, loss, IsMeasured, IsLight}
+use Rattle.amp_plan.specs.Measures.{excess, gain, loss}
 use Rattle.amp_plan.specs.Shares.{listed}
-use Rattle.amp_plan.specs.declared.measure.Measure.{Measure}
 use Rattle.amp_plan.proofs.ChoiceLemmas.{all-weaken, all-map, all-counting}
 use Rattle.amp_plan.proofs.MeasureLemmas.{excess-append, AreBytes, bytes-push, measured-append, measured-none, measured-light}
 
@@ -80,8 +70,8 @@ pub record IsSmallRead (m : Measure) (up down : ℕ) : Type 0 where
   pub gain : up ≤ 9204
   pub loss : down ≤ 9204
 
-pub read-small : (c : ℤ) (xs : List ℕ) (m : Measure) (up down : ℕ) → unsigned_abs c ≤ 99 → length xs ≤ 26 → IsRead c xs m up down → IsSmallRead m up down
-read-small c xs m up down h l r = record {
+pub read-small : {c : ℤ} {xs : List ℕ} {m : Measure} {up down : ℕ} → unsigned_abs c ≤ 99 → length xs ≤ 26 → IsRead c xs m up down → IsSmallRead m up down
+read-small {c} {xs} {m} {up} {down} h l r = record {
   light = measured-light c xs m h r.bytes (omega (arith, l)) r.whole;
   gain = omega (arith, r.gain, gain-small c xs h r.bytes, l);
   loss = omega (arith, r.loss, loss-small c xs h r.bytes, l);

@@ -1,17 +1,11 @@
 -- Tensors with the same entries below dim have plans with the same limits.
-use Rattle.std.proofs.Common.{◌≡◌, ℕ, zero, suc, ◌+◌, ◌<◌, ◌≤◌, refl, sym, ap, ap₂, ◌∙◌, arith, List, ◌∷◌, length, map}
-use Rattle.airy_math.specs.Keys.{Key}
-use Rattle.airy_math.specs.Sums.{below, count_from, keep}
-use Rattle.airy_math.specs.Tensors.{Tensors}
-use Rattle.airy_math.specs.Terms.{needs}
-use Rattle.airy_math.specs.Planned.{planned, IsPlanned}
-use Rattle.airy_math.specs.Ranks.{place_of, key_at, PlanLaw}
+use Rattle.std.proofs.Common.{◌≡◌, ℕ, zero, suc, ◌+◌, ◌<◌, ◌≤◌, refl, sym, ap, ap₂, ◌∙◌, arith, List, ◌∷◌, length, map, cond, ◌&&◌, leb}
+use Rattle.amp_plan.proofs.Words.{Key, count_from, keep, Tensors, needs, planned, IsPlanned, place_of, PlanLaw, has, named_ranks, needs_rank, needed, need_counts, first_past, PassesBound, PassesCells, limit, level_at}
+use Rattle.airy_math.specs.Sums.{below}
+use Rattle.airy_math.specs.Ranks.{key_at}
 use Rattle.airy_math.specs.BelowDim.{SameBelowDim, BelowDimLaw}
-use Rattle.amp_plan.specs.Needs.{has, named_ranks, needs_rank, needed, need_counts, first_past}
-use Rattle.amp_plan.specs.Limits.{PassesBound, PassesCells, limit, past, level_at}
+use Rattle.amp_plan.specs.Limits.{past}
 use Rattle.amp_plan.specs.SameLimits.{SameLimitsLaw}
-use Rattle.std.specs.Prelude.{cond, ◌&&◌}
-use lib.Dec.{leb}
 
 map_from : {A : Type 0} (f g : ℕ → A) (k n : ℕ) → ((r : ℕ) → k ≤ r → r < k + n → f r ≡ g r) → map f (count_from k n) ≡ map g (count_from k n)
 unfolding count_from

@@ -1,15 +1,10 @@
 -- Searches: from left to right, and by halves.
-use Rattle.std.proofs.Common.{◌≡◌, ℕ, suc, ◌+◌, ◌<◌, ◌≤◌, Bool, true, false, List, [], ◌∷◌, length, drop, get_or, refl, sym, ◌∙◌, ap, arith, length-drop}
-use lib.Dec.{ltb}
-use mathlib.Core.Logic.{◌⊎◌, inl, inr}
-use Rattle.std.proofs.lemmas.Bool.{cases_lt, cases_order}
+use Rattle.std.proofs.Common.{◌≡◌, ℕ, suc, ◌+◌, ◌<◌, ◌≤◌, Bool, true, false, List, [], ◌∷◌, length, drop, get_or, refl, sym, ◌∙◌, ap, arith, length-drop, ltb, ◌⊎◌, inl, inr, slice_index}
+use Rattle.amp_plan.proofs.Words.{cases_lt, cases_order, Key, place_of, are_below, AreInOrder}
 use Rattle.std.proofs.lemmas.List.{drop_more}
-use Rattle.std.specs.Prelude.{slice_index}
-use Rattle.airy_math.specs.Keys.{Key, same_key, before}
+use Rattle.airy_math.specs.Keys.{same_key, before}
 use Rattle.airy_math.proofs.BeforeLemmas.{before-self, before-back}
 use Rattle.airy_math.proofs.PlannedLaw.{key_same}
-use Rattle.airy_math.specs.Ranks.{place_of}
-use Rattle.amp_plan.specs.Places.{are_below, AreInOrder}
 
 pub below-more : (dim : ℕ) (xs : List ℕ) (i : ℕ) → i < length xs → slice_index xs i < dim → are_below dim (drop i xs) ≡ are_below dim (drop (i + 1) xs)
 unfolding are_below

@@ -1,25 +1,12 @@
 -- The splits of a list as they are listed, run by run.
-use Rattle.std.proofs.Common.{◌≡◌, ℕ, suc, ◌+◌, ◌-◌, ◌*◌, ◌/◌, ◌<◌, ◌≤◌, ◌^◌, Bool, true, List, [], ◌∷◌, ◌++◌, length, length-append, map, append_assoc, append-nil, refl, sym, ap, ap₂, subst, ◌∙◌, arith, lit≤}
-use Rattle.std.specs.Prelude.{ℤ, pos, ◌+ℤ◌}
-use Rattle.std.specs.Int.RustNames.{unsigned_abs}
-use lib.ListN.{replicate}
-use native.Mathlib.Nat.{pow-le-pow_right}
+use Rattle.std.proofs.Common.{◌≡◌, ℕ, suc, ◌+◌, ◌-◌, ◌*◌, ◌/◌, ◌<◌, ◌≤◌, ◌^◌, List, [], ◌∷◌, ◌++◌, length, length-append, map, append_assoc, append-nil, refl, sym, ap, ap₂, ◌∙◌, arith, lit≤, ℤ, pos, ◌+ℤ◌, replicate}
+use Rattle.amp_plan.proofs.Words.{unsigned_abs, pow-le-pow_right, mul-le-mul, one-le-pow, total, Split, splits, binomial, count_from, each, put_before, all_splits, whole_length, binomial-small, splits-all, small_more, code_of_list, IsMeasured, IsLight, more_of, no_split, chain, listed_of, numbers_of, all_listed, taken_so, going_on, CanBeListed, Measure, Chosen, Listed}
 use Rattle.std.proofs.lemmas.List.{length-replicate, map-append}
-use Rattle.std.proofs.Math.Nat.{mul-le-mul, one-le-pow}
-use Rattle.airy_math.specs.Keys.{total}
-use Rattle.airy_math.specs.Splits.{Split, splits, runs}
-use Rattle.airy_math.specs.Sums.{below, binomial, count_from, each}
-use Rattle.airy_index.specs.Choices.{put_before, all_splits, whole_length}
-use Rattle.airy_index.proofs.BinomialLemmas.{binomial-small}
-use Rattle.airy_index.proofs.ChoiceLemmas.{splits-all}
-use Rattle.airy_index.proofs.ChosenLemmas.{small_more}
-use Rattle.key_index.specs.Codes.{code_of_list}
-use Rattle.amp_plan.specs.Measures.{excess, IsMeasured, IsLight}
-use Rattle.amp_plan.specs.Shares.{behind, more_of, no_split}
-use Rattle.amp_plan.specs.SplitLists.{chain, listed_of, numbers_of, all_listed, taken_so, going_on, copies, CanBeListed}
-use Rattle.amp_plan.specs.declared.measure.Measure.{Measure}
-use Rattle.amp_plan.specs.declared.share.Chosen.{Chosen}
-use Rattle.amp_plan.specs.declared.split_list.Listed.{Listed}
+use Rattle.airy_math.specs.Splits.{runs}
+use Rattle.airy_math.specs.Sums.{below}
+use Rattle.amp_plan.specs.Measures.{excess}
+use Rattle.amp_plan.specs.Shares.{behind}
+use Rattle.amp_plan.specs.SplitLists.{copies}
 use Rattle.amp_plan.proofs.WalkLemmas.{count-next, count-over}
 use Rattle.amp_plan.proofs.PartLemmas.{map-each}
 use Rattle.amp_plan.proofs.ChoiceLemmas.{each-same, behind-more, behind-end, behind-none}
@@ -126,17 +113,14 @@ pub listable-few : (c : ℤ) (t : ℕ) (x : Chosen) → CanBeListed c [] t x →
 unfolding taken_so whole_length total
 listable-few c t x k = omega (arith, (are-numbers c k.split x k.is).ways, k.small)
 
-module _ (c : ℤ) (left : List (ℕ × ℕ)) (r : ℕ × ℕ) (rs : List (ℕ × ℕ)) (t : ℕ) (x : Chosen) (first : left ≡ r ∷ rs) (listable : CanBeListed c left t x) where
-  k : CanBeListed c (r ∷ rs) t x
-  k = subst (λ l. CanBeListed c l t x) first listable
-
+module _ {c : ℤ} {r : ℕ × ℕ} {rs : List (ℕ × ℕ)} {t : ℕ} {x : Chosen} (k : CanBeListed c (r ∷ rs) t x) where
   numbered : IsNumbered c (more_of k.split r t) x
   unfolding taken_so
   numbered = are-numbers c (more_of k.split r t) x k.is
 
-  within : t ≤ r.1
+  pub listable-within : t ≤ r.1
   unfolding copies
-  within = k.within
+  listable-within = k.within
 
   short : length k.split.part + (r.1 + whole_length rs) ≤ 25
   unfolding whole_length total
@@ -152,9 +136,6 @@ module _ (c : ℤ) (left : List (ℕ × ℕ)) (r : ℕ × ℕ) (rs : List (ℕ �
   pub listable-short : r.1 ≤ 25
   listable-short = omega (arith, short)
 
-  pub listable-within : t ≤ r.1
-  listable-within = within
-
   pub listable-ways : x.ways ≤ 2 ^ 25
   unfolding more_of
   listable-ways =
@@ -166,30 +147,23 @@ module _ (c : ℤ) (left : List (ℕ × ℕ)) (r : ℕ × ℕ) (rs : List (ℕ �
   unfolding more_of
   listable-light law byte =
       measured-light c (k.split.part ++ replicate t r.0) x.part law (bytes-append k.split.part (replicate t r.0) k.bytes (bytes-replicate t r.0 byte))
-      (omega (arith, length-append k.split.part (replicate t r.0), length-replicate t r.0, short, within)) numbered.part
+      (omega (arith, length-append k.split.part (replicate t r.0), length-replicate t r.0, short, listable-within)) numbered.part
 
   -- with one copy more
-  pub listable-more : (e : Chosen) (item : Measure) → (t ≡ r.1 → ⊥) → IsMeasured c (r.0 ∷ []) item
-      → e ≡ record x { part = record { places = x.part.places + item.places; excess = x.part.excess +ℤ item.excess; code = x.part.code + item.code }; ways = x.ways * (r.1 - t) / (t + 1) } → CanBeListed c left (t + 1) e
+  pub listable-more : {e : Chosen} {item : Measure} → (t ≡ r.1 → ⊥) → IsMeasured c (r.0 ∷ []) item → e ≡ record x { part = record { places = x.part.places + item.places; excess = x.part.excess +ℤ item.excess; code = x.part.code + item.code }; ways = x.ways * (r.1 - t) / (t + 1) } → CanBeListed c (r ∷ rs) (t + 1) e
   unfolding taken_so copies
-  listable-more e item n i same = subst (λ l. CanBeListed c l (t + 1) e) (sym first) (record {
+  listable-more {e} {item} n i same = record {
     split = k.split;
     is = numbers-are c (more_of k.split r (t + 1)) e (numbers-next c k.split r t x e item numbered i same);
-    within = grind (arith, within, n);
+    within = grind (arith, listable-within, n);
     bytes = k.bytes;
     few = k.few;
     small = k.small;
-  })
+  }
 
-  is-first : (s : Split) → x ≡ numbers_of c (taken_so s left t) → x ≡ numbers_of c (more_of s r t)
+  pub numbers-more : (s : Split) {e : Chosen} {item : Measure} → x ≡ numbers_of c (taken_so s (r ∷ rs) t) → IsMeasured c (r.0 ∷ []) item → e ≡ record x { part = record { places = x.part.places + item.places; excess = x.part.excess +ℤ item.excess; code = x.part.code + item.code }; ways = x.ways * (r.1 - t) / (t + 1) } → e ≡ numbers_of c (taken_so s (r ∷ rs) (t + 1))
   unfolding taken_so
-  is-first s is = is ∙ ap (λ l. numbers_of c (taken_so s l t)) first
-
-  pub numbers-more : (s : Split) (e : Chosen) (item : Measure) → x ≡ numbers_of c (taken_so s left t) → IsMeasured c (r.0 ∷ []) item
-      → e ≡ record x { part = record { places = x.part.places + item.places; excess = x.part.excess +ℤ item.excess; code = x.part.code + item.code }; ways = x.ways * (r.1 - t) / (t + 1) } → e ≡ numbers_of c (taken_so s left (t + 1))
-  unfolding taken_so
-  numbers-more s e item is i same =
-      numbers-are c (more_of s r (t + 1)) e (numbers-next c s r t x e item (are-numbers c (more_of s r t) x (is-first s is)) i same) ∙ ap (λ l. numbers_of c (taken_so s l (t + 1))) (sym first)
+  numbers-more s {e} {item} is i same = numbers-are c (more_of s r (t + 1)) e (numbers-next c s r t x e item (are-numbers c (more_of s r t) x is) i same)
 
   -- the runs behind the first one
   pub listable-others : r.0 < 256 → CanBeListed c rs 0 x
@@ -199,43 +173,30 @@ module _ (c : ℤ) (left : List (ℕ × ℕ)) (r : ℕ × ℕ) (rs : List (ℕ �
     is = k.is ∙ numbers-begin c (more_of k.split r t) rs;
     within = omega arith;
     bytes = bytes-append k.split.part (replicate t r.0) k.bytes (bytes-replicate t r.0 byte);
-    few = omega (arith, length-append k.split.part (replicate t r.0), length-replicate t r.0, short, within);
+    few = omega (arith, length-append k.split.part (replicate t r.0), length-replicate t r.0, short, listable-within);
     small = fewer;
   }
 
-  pub numbers-others : (s : Split) → x ≡ numbers_of c (taken_so s left t) → x ≡ numbers_of c (taken_so (more_of s r t) rs 0)
-  numbers-others s is = is-first s is ∙ numbers-begin c (more_of s r t) rs
+  pub numbers-others : (s : Split) → x ≡ numbers_of c (taken_so s (r ∷ rs) t) → x ≡ numbers_of c (taken_so (more_of s r t) rs 0)
+  unfolding taken_so
+  numbers-others s is = is ∙ numbers-begin c (more_of s r t) rs
 
   -- those with more copies of the first run's index are listed, and then those with t copies before them
-  pub listed-step : (s : Split) (old mid new : List (ℕ × Listed)) → mid ≡ all_listed c (going_on s left (t + 1)) ++ old → new ≡ all_listed c (going_on (more_of s r t) rs 0) ++ mid
-      → new ≡ all_listed c (going_on s left t) ++ old
-  listed-step s old mid new e h =
+  pub listed-step : (s : Split) (old : List (ℕ × Listed)) {mid new : List (ℕ × Listed)} → mid ≡ all_listed c (going_on s (r ∷ rs) (t + 1)) ++ old → new ≡ all_listed c (going_on (more_of s r t) rs 0) ++ mid → new ≡ all_listed c (going_on s (r ∷ rs) t) ++ old
+  listed-step s old {mid} {new} e h =
       let here = going_on (more_of s r t) rs 0 in
-      let more = going_on s left (t + 1) in
-      let all : here ++ more ≡ going_on s left t = subst (λ l. here ++ going_on s l (t + 1) ≡ going_on s l t) (sym first) (sym (going-step s r rs t within)) in
+      let more = going_on s (r ∷ rs) (t + 1) in
       h ∙ ap (λ xs. all_listed c here ++ xs) e ∙ sym (append_assoc (all_listed c here) (all_listed c more) old)
-      ∙ ap (λ xs. xs ++ old) (sym (listed-append c here more) ∙ ap (all_listed c) all)
+      ∙ ap (λ xs. xs ++ old) (sym (listed-append c here more) ∙ ap (all_listed c) (sym (going-step s r rs t listable-within)))
 
-  pub listed-last : (s : Split) (old new : List (ℕ × Listed)) → t ≡ r.1 → new ≡ all_listed c (going_on (more_of s r t) rs 0) ++ old → new ≡ all_listed c (going_on s left t) ++ old
+  pub listed-last : (s : Split) (old : List (ℕ × Listed)) {new : List (ℕ × Listed)} → t ≡ r.1 → new ≡ all_listed c (going_on (more_of s r t) rs 0) ++ old → new ≡ all_listed c (going_on s (r ∷ rs) t) ++ old
   unfolding all_listed
-  listed-last s old new e h =
-      let none : going_on s left (t + 1) ≡ [] = ap (λ l. going_on s l (t + 1)) first ∙ going-over s r rs (t + 1) (omega (arith, e)) in
-      listed-step s old old new (ap (λ ss. all_listed c ss ++ old) (sym none)) h
+  listed-last s old {new} e h = listed-step s old (ap (λ ss. all_listed c ss ++ old) (sym (going-over s r rs (t + 1) (omega (arith, e))))) h
 
-  -- a run less, or a copy more of the first one
-  pub falls-others : 2 * (whole_length rs + length rs) + 1 < 2 * (whole_length left + length left - t)
-  unfolding whole_length total
-  falls-others =
-      let n : whole_length left ≡ r.1 + whole_length rs = ap whole_length first in
-      let m : length left ≡ suc (length rs) = ap length first in
-      omega (arith, n, m, within)
-
-  pub falls-more : 2 * (whole_length left + length left - (t + 1)) < 2 * (whole_length left + length left - t)
-  unfolding whole_length total
-  falls-more =
-      let n : whole_length left ≡ r.1 + whole_length rs = ap whole_length first in
-      let m : length left ≡ suc (length rs) = ap length first in
-      omega (arith, n, m, within)
+-- the runs of a list, and all but the first
+pub falls-first : (r : ℕ × ℕ) (rs : List (ℕ × ℕ)) → whole_length (r ∷ rs) ≡ r.1 + whole_length rs
+unfolding whole_length total
+falls-first r rs = refl
 
 -- ---- from nothing on
 
@@ -264,8 +225,3 @@ listable-nothing c I rs e few =
 pub listed-whole : (c : ℤ) (I : List ℕ) (rs : List (ℕ × ℕ)) (old new : List (ℕ × Listed)) → rs ≡ runs I → old ≡ [] → new ≡ all_listed c (going_on no_split rs 0) ++ old → new ≡ all_listed c (splits I)
 listed-whole c I rs old new e none h =
     h ∙ ap (λ xs. all_listed c (going_on no_split rs 0) ++ xs) none ∙ append-nil (all_listed c (going_on no_split rs 0)) ∙ ap (λ l. all_listed c (going_on no_split l 0)) e ∙ ap (all_listed c) (going-from_none I)
-
--- ---- what a call lists
-
-abbrev pub Lists : ℤ → List (ℕ × ℕ) → ℕ → Chosen → Bool → List (ℕ × Listed) → List (ℕ × Listed) → Type 0
-Lists c left t x done old new = (s : Split) → x ≡ numbers_of c (taken_so s left t) → done ≡ true → new ≡ all_listed c (going_on s left t) ++ old

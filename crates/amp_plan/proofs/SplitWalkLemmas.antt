@@ -1,16 +1,9 @@
 -- The two lists of a split make keys in their genera.
-use Rattle.std.proofs.Common.{◌≡◌, ℕ, suc, ◌+◌, ◌^◌, ◌<◌, ◌≤◌, Bool, true, false, List, [], ◌∷◌, ◌++◌, length, map, get_or, refl, sym, ap, subst, arith, lit≤}
-use Rattle.std.specs.Prelude.{nat_eq}
-use Rattle.std.specs.List.{AllByRecursion}
-use native.Mathlib.Nat.{pow-le-pow_right}
-use Rattle.airy_math.specs.Keys.{times, more, total, IsSortedFrom}
-use Rattle.airy_math.specs.Splits.{Split, splits}
-use Rattle.airy_math.specs.Tensors.{Tensors}
-use Rattle.airy_math.proofs.KeyLemmas.{AllBelow}
-use Rattle.airy_math.proofs.PlannedLaw.{ascending, small}
+use Rattle.std.proofs.Common.{◌≡◌, ℕ, suc, ◌+◌, ◌^◌, ◌<◌, ◌≤◌, Bool, true, false, List, [], ◌∷◌, ◌++◌, length, map, get_or, refl, sym, ap, subst, arith, lit≤, nat_eq}
+use Rattle.amp_plan.proofs.Words.{AllByRecursion, pow-le-pow_right, times, total, IsSortedFrom, Split, splits, Tensors, AllBelow, ascending, splits_law, HasRoom, IsPartOf}
+use Rattle.airy_math.specs.Keys.{more}
+use Rattle.airy_math.proofs.PlannedLaw.{small}
 use Rattle.airy_index.specs.SplitLaw.{IsSplitOf}
-use Rattle.airy_index.proofs.SplitLaw.{splits_law}
-use Rattle.amp_plan.specs.Walk.{HasRoom, IsPartOf}
 use Rattle.amp_plan.proofs.RankWalkLemmas.{sorted_from}
 
 -- the elements are bytes

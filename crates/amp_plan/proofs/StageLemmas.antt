@@ -1,35 +1,20 @@
 -- The numbers of a walk over the splits of a list, from one step to the next.
-use Rattle.std.proofs.Common.{◌≡◌, ℕ, zero, suc, ◌+◌, ◌-◌, ◌*◌, ◌/◌, ◌<◌, ◌≤◌, ◌^◌, List, [], ◌∷◌, ◌++◌, length, length-append, append_assoc, append-nil, refl, sym, ap, subst, ◌∙◌, arith, Option}
-use Rattle.std.specs.Prelude.{ℤ, pos, ◌+ℤ◌, ◌-ℤ◌}
-use lib.ListN.{replicate}
-use Rattle.std.proofs.lemmas.Int.{ints}
+use Rattle.std.proofs.Common.{◌≡◌, ℕ, zero, suc, ◌+◌, ◌-◌, ◌*◌, ◌/◌, ◌<◌, ◌≤◌, ◌^◌, List, [], ◌∷◌, ◌++◌, length, length-append, append_assoc, append-nil, refl, sym, ap, subst, ◌∙◌, arith, Option, ℤ, pos, ◌+ℤ◌, ◌-ℤ◌, replicate}
+use Rattle.amp_plan.proofs.Words.{ints, mul_assoc, mul-le-mul, one-le-pow, natural, Key, key_of, insert, total, Split, binomial, whole_length, binomial-small, small_more, looked_up, list_code-small, list_code-more, list_code-none, list_code-append, index_code-small, Planning, tensors_of, live_rank, IsMeasured, IsLight, IsCandidate, more_of, IsShare, FitsShare, IsChosen, Measure, Share, Chosen, length-insert}
 use Rattle.std.proofs.lemmas.List.{length-replicate}
-use Rattle.std.proofs.Math.Nat.{mul_assoc, mul-le-mul, one-le-pow, mul-div_cancel}
-use Rattle.airy_math.specs.Cuts.{natural}
-use Rattle.airy_math.specs.Keys.{Key, key_of, insert, total}
-use Rattle.airy_math.specs.Splits.{Split}
-use Rattle.airy_math.specs.Sums.{binomial}
-use Rattle.airy_index.specs.Choices.{whole_length}
-use Rattle.airy_index.proofs.BinomialLemmas.{binomial-step, binomial-small}
-use Rattle.airy_index.proofs.ChosenLemmas.{small_more}
-use Rattle.sparse_tensor.specs.Entries.{looked_up}
-use Rattle.key_index.proofs.CodeLemmas.{list_code-small, list_code-more, list_code-none, list_code-append, index_code-small}
-use Rattle.amp_plan.specs.Plans.{Planning, tensors_of}
-use Rattle.amp_plan.specs.Walk.{live_rank}
-use Rattle.amp_plan.specs.Measures.{gain, loss, IsMeasured, IsLight, IsCandidate}
-use Rattle.amp_plan.specs.Shares.{more_of, listed, IsShare, FitsShare, IsChosen}
-use Rattle.amp_plan.specs.declared.measure.Measure.{Measure}
-use Rattle.amp_plan.specs.declared.share.Share.{Share}
-use Rattle.amp_plan.specs.declared.share.Chosen.{Chosen}
-use Rattle.amp_plan.proofs.RankWalkLemmas.{length-insert, sorted-insert, IsFound}
+use Rattle.std.proofs.Math.Nat.{mul-div_cancel}
+use Rattle.airy_index.proofs.BinomialLemmas.{binomial-step}
+use Rattle.amp_plan.specs.Measures.{gain, loss}
+use Rattle.amp_plan.specs.Shares.{listed}
+use Rattle.amp_plan.proofs.RankWalkLemmas.{sorted-insert}
 use Rattle.amp_plan.proofs.ChoiceLemmas.{fits-more, fits-end}
 use Rattle.amp_plan.proofs.MeasureLemmas.{AreBytes, measured-append, measured-rest, measured-insert, measured-light}
 use Rattle.amp_plan.proofs.ReachLemmas.{gain-replicate, loss-replicate}
 
 -- ---- the numbers of a choice
 
-pub chosen-light : (p : Planning) (h : Share) (left : List (ℕ × ℕ)) (c : Chosen) (s : Split) → IsShare p h → IsChosen p h left c s → IsLight c.part
-chosen-light p h left c s is k = measured-light h.per_n s.part c.part is.small_law k.bytes (omega (arith, k.few)) k.part
+pub chosen-light : {p : Planning} {h : Share} {left : List (ℕ × ℕ)} {c : Chosen} {s : Split} → IsShare p h → IsChosen p h left c s → IsLight c.part
+chosen-light {p} {h} {left} {c} {s} is k = measured-light h.per_n s.part c.part is.small_law k.bytes (omega (arith, k.few)) k.part
 
 -- ---- at the end of the runs
 
@@ -48,16 +33,16 @@ left_candidate p h c s is k =
       level = omega (arith, length-insert h.pair.a s.part, room.level);
     }
 
-pub left_code : (p : Planning) (h : Share) (c : Chosen) (s : Split) → IsShare p h → IsChosen p h [] c s → h.left.code + c.part.code < 2 ^ 63
-left_code p h c s is k = omega (arith, is.left.code, list_code-more h.pair.a [], list_code-none, index_code-small h.pair.a, k.part.code, list_code-small s.part, k.few)
+pub left_code : {p : Planning} {h : Share} {c : Chosen} {s : Split} → IsShare p h → IsChosen p h [] c s → h.left.code + c.part.code < 2 ^ 63
+left_code {p} {h} {c} {s} is k = omega (arith, is.left.code, list_code-more h.pair.a [], list_code-none, index_code-small h.pair.a, k.part.code, list_code-small s.part, k.few)
 
 -- the part is no more than the whole
 pub record IsWithin (part whole : Measure) : Type 0 where
   pub places : part.places ≤ whole.places
   pub code : part.code ≤ whole.code
 
-pub part_within : (p : Planning) (h : Share) (c : Chosen) (s : Split) → IsChosen p h [] c s → IsWithin c.part h.right
-part_within p h c s k =
+pub part_within : {p : Planning} {h : Share} {c : Chosen} {s : Split} → IsChosen p h [] c s → IsWithin c.part h.right
+part_within {p} {h} {c} {s} k =
     let f = fits-end (FitsShare p h) s k.fits in
     record {
       places = omega (arith, k.part.places, f.right.places, length-append s.part s.rest);
@@ -80,13 +65,13 @@ right_candidate p h c s is k =
       level = omega (arith, length-insert h.pair.b s.rest, room.level);
     }
 
-pub left_found : (p : Planning) (h : Share) (c : Chosen) (s : Split) (m : Measure) (r : Option ℕ) → IsShare p h → IsChosen p h [] c s → m ≡ record { places = h.left.places + c.part.places; excess = h.left.excess +ℤ c.part.excess; code = h.left.code + c.part.code }
-    → ((key : Key) → IsCandidate p h.k m key → r ≡ live_rank p key) → IsFound p h.k h.pair.a s.part r
-left_found p h c s m r is k e f = record { is = f (key_of h.k (insert h.pair.a s.part)) (subst (λ z. IsCandidate p h.k z (key_of h.k (insert h.pair.a s.part))) (sym e) (left_candidate p h c s is k)) }
+pub left_found : {p : Planning} {h : Share} {c : Chosen} {s : Split} {m : Measure} {r : Option ℕ} → IsShare p h → IsChosen p h [] c s → m ≡ record { places = h.left.places + c.part.places; excess = h.left.excess +ℤ c.part.excess; code = h.left.code + c.part.code }
+    → ((key : Key) → IsCandidate p h.k m key → r ≡ live_rank p key) → r ≡ live_rank p (key_of h.k (insert h.pair.a s.part))
+left_found {p} {h} {c} {s} {m} {r} is k e f = f _ (subst (λ z. IsCandidate p h.k z (key_of h.k (insert h.pair.a s.part))) (sym e) (left_candidate p h c s is k))
 
-pub right_found : (p : Planning) (h : Share) (c : Chosen) (s : Split) (m : Measure) (r : Option ℕ) → IsShare p h → IsChosen p h [] c s → m ≡ record { places = h.right.places - c.part.places; excess = h.right.excess -ℤ c.part.excess; code = h.right.code - c.part.code }
-    → ((key : Key) → IsCandidate p (h.genus - h.k) m key → r ≡ live_rank p key) → IsFound p (h.genus - h.k) h.pair.b s.rest r
-right_found p h c s m r is k e f = record { is = f (key_of (h.genus - h.k) (insert h.pair.b s.rest)) (subst (λ z. IsCandidate p (h.genus - h.k) z (key_of (h.genus - h.k) (insert h.pair.b s.rest))) (sym e) (right_candidate p h c s is k)) }
+pub right_found : {p : Planning} {h : Share} {c : Chosen} {s : Split} {m : Measure} {r : Option ℕ} → IsShare p h → IsChosen p h [] c s → m ≡ record { places = h.right.places - c.part.places; excess = h.right.excess -ℤ c.part.excess; code = h.right.code - c.part.code }
+    → ((key : Key) → IsCandidate p (h.genus - h.k) m key → r ≡ live_rank p key) → r ≡ live_rank p (key_of (h.genus - h.k) (insert h.pair.b s.rest))
+right_found {p} {h} {c} {s} {m} {r} is k e f = f _ (subst (λ z. IsCandidate p (h.genus - h.k) z (key_of (h.genus - h.k) (insert h.pair.b s.rest))) (sym e) (right_candidate p h c s is k))
 
 -- ---- from one number of copies to the next
 
@@ -128,7 +113,7 @@ bytes-replicate (suc t) x h = (h, bytes-replicate t x h)
 turned : (x : ℕ) (c e : ℤ) → e ≡ pos x -ℤ c → pos 0 -ℤ e ≡ c -ℤ pos x
 turned x c e i = omega (arith, ints, i)
 
-module _ (p : Planning) (h : Share) (r : ℕ × ℕ) (others : List (ℕ × ℕ)) (c : Chosen) (s : Split) (k : IsChosen p h (r ∷ others) c s) where
+module _ {p : Planning} {h : Share} {r : ℕ × ℕ} {others : List (ℕ × ℕ)} {c : Chosen} {s : Split} (k : IsChosen p h (r ∷ others) c s) where
   short : length s.part + (r.1 + whole_length others) ≤ 25
   unfolding whole_length total
   short = k.few
@@ -151,18 +136,18 @@ module _ (p : Planning) (h : Share) (r : ℕ × ℕ) (others : List (ℕ × ℕ)
   pub loss_enough : (e : ℤ) → e ≡ pos r.0 -ℤ h.per_n → r.1 * natural (pos 0 -ℤ e) ≤ c.loss
   loss_enough e i = omega (arith, loss_first, ap (λ z. r.1 * natural z) (turned r.0 h.per_n e i))
 
-  pub at_first : (d : Chosen) (e : ℤ) → e ≡ pos r.0 -ℤ h.per_n → d ≡ record { part = c.part; ways = c.ways; gain = c.gain - r.1 * natural e; loss = c.loss - r.1 * natural (pos 0 -ℤ e) } → IsAt h r others s d 0
+  pub at_first : {d : Chosen} (e : ℤ) → e ≡ pos r.0 -ℤ h.per_n → d ≡ record { part = c.part; ways = c.ways; gain = c.gain - r.1 * natural e; loss = c.loss - r.1 * natural (pos 0 -ℤ e) } → IsAt h r others s d 0
   unfolding binomial
-  at_first d e i same = record {
+  at_first {d} e i same = record {
     part = subst (λ l. IsMeasured h.per_n l d.part) (sym (append-nil s.part)) (subst (IsMeasured h.per_n s.part) (sym (ap (λ z. z.part) same)) k.part);
     ways = omega (arith, ap (λ z. z.ways) same, k.ways);
     gain = omega (arith, ap (λ z. z.gain) same, gain_first, ap (λ z. r.1 * natural z) i);
     loss = omega (arith, ap (λ z. z.loss) same, loss_first, ap (λ z. r.1 * natural z) (turned r.0 h.per_n e i));
   }
 
-  pub chosen_next : (d : Chosen) (t : ℕ) → r.0 < 256 → t ≤ r.1 → IsAt h r others s d t → IsChosen p h others d (more_of s r t)
+  pub chosen_next : {d : Chosen} {t : ℕ} → r.0 < 256 → t ≤ r.1 → IsAt h r others s d t → IsChosen p h others d (more_of s r t)
   unfolding more_of whole_length total
-  chosen_next d t byte l a = record {
+  chosen_next {d} {t} byte l a = record {
     part = a.part;
     ways = a.ways;
     gain = a.gain;
@@ -173,24 +158,24 @@ module _ (p : Planning) (h : Share) (r : ℕ × ℕ) (others : List (ℕ × ℕ)
     small = small_more s.ways (binomial r.1 t) r.1 (whole_length others) (2 ^ 25) k.small (binomial-small r.1 t);
   }
 
-  pub at_light : IsShare p h → (d : Chosen) (t : ℕ) → r.0 < 256 → t ≤ r.1 + 1 → IsAt h r others s d t → IsLight d.part
-  at_light is d t byte l a = measured-light h.per_n (s.part ++ replicate t r.0) d.part is.small_law (bytes-append s.part (replicate t r.0) k.bytes (bytes-replicate t r.0 byte)) (omega (arith, length-append s.part (replicate t r.0), length-replicate t r.0, short, l)) a.part
+  pub at_light : {d : Chosen} {t : ℕ} → IsShare p h → r.0 < 256 → t ≤ r.1 + 1 → IsAt h r others s d t → IsLight d.part
+  at_light {d} {t} is byte l a = measured-light h.per_n (s.part ++ replicate t r.0) d.part is.small_law (bytes-append s.part (replicate t r.0) k.bytes (bytes-replicate t r.0 byte)) (omega (arith, length-append s.part (replicate t r.0), length-replicate t r.0, short, l)) a.part
 
   small_first : s.ways * 2 ^ (r.1 + whole_length others) ≤ 2 ^ 25
   unfolding whole_length total
   small_first = k.small
 
-  pub at_ways : (d : Chosen) (t : ℕ) → IsAt h r others s d t → d.ways ≤ 2 ^ 25
-  at_ways d t a =
+  pub at_ways : {d : Chosen} {t : ℕ} → IsAt h r others s d t → d.ways ≤ 2 ^ 25
+  at_ways {d} {t} a =
       let n = whole_length others in
       let w = s.ways * binomial r.1 t in
       let bound : w * 2 ^ n ≤ 2 ^ 25 = small_more s.ways (binomial r.1 t) r.1 n (2 ^ 25) small_first (binomial-small r.1 t) in
       let grows : w * 1 ≤ w * 2 ^ n = mul-le-mul (let self : w ≤ w = omega arith in self) (one-le-pow n 2 (omega arith)) in
       omega (arith, bound, grows, a.ways)
 
-  pub at_next : (d e : Chosen) (t : ℕ) (item : Measure) → IsAt h r others s d t → IsMeasured h.per_n (r.0 ∷ []) item
+  pub at_next : {d e : Chosen} {t : ℕ} {item : Measure} → IsAt h r others s d t → IsMeasured h.per_n (r.0 ∷ []) item
       → e ≡ record d { part = record { places = d.part.places + item.places; excess = d.part.excess +ℤ item.excess; code = d.part.code + item.code }; ways = d.ways * (r.1 - t) / (t + 1) } → IsAt h r others s e (t + 1)
-  at_next d e t item a i same = record {
+  at_next {d} {e} {t} {item} a i same = record {
     part = part-next h.per_n s.part r.0 t d.part e.part item a.part i (ap (λ z. z.part) same);
     ways = ap (λ z. z.ways) same ∙ ap (λ n. n * (r.1 - t) / (t + 1)) a.ways ∙ ways-next s.ways r.1 t;
     gain = ap (λ z. z.gain) same ∙ a.gain;

@@ -1,19 +1,8 @@
 -- A walk over the splits of a list begins with nothing chosen.
-use Rattle.std.proofs.Common.{◌≡◌, ℕ, ◌≤◌, ◌^◌, List, [], ◌∷◌, length, refl, sym, ap, subst, ◌∙◌, arith, lit≤}
-use Rattle.std.specs.Prelude.{pos}
-use Rattle.std.specs.List.{AllByRecursion}
-use native.Mathlib.Nat.{pow-le-pow_right}
-use Rattle.airy_math.specs.Keys.{IsSortedFrom}
-use Rattle.airy_math.specs.Shapes.{per_n}
-use Rattle.airy_math.specs.Splits.{runs, splits}
-use Rattle.airy_index.specs.Choices.{whole_length}
-use Rattle.sparse_tensor.specs.Entries.{looked_up}
-use Rattle.amp_plan.specs.Plans.{Planning, tensors_of}
-use Rattle.amp_plan.specs.Ranked.{RankedTerm}
-use Rattle.amp_plan.specs.Walk.{HasRoom, IsPartOf, genus_part}
-use Rattle.amp_plan.specs.Measures.{IsMeasured, gain, loss}
-use Rattle.amp_plan.specs.Shares.{no_split, of_share, IsShare, FitsShare, IsChosen}
-use Rattle.amp_plan.specs.declared.share.Share.{Share}
+use Rattle.std.proofs.Common.{◌≡◌, ℕ, ◌≤◌, ◌^◌, List, [], ◌∷◌, length, refl, sym, ap, subst, ◌∙◌, arith, lit≤, pos}
+use Rattle.amp_plan.proofs.Words.{AllByRecursion, pow-le-pow_right, IsSortedFrom, per_n, splits, whole_length, looked_up, Planning, tensors_of, RankedTerm, HasRoom, IsPartOf, genus_part, IsMeasured, no_split, of_share, IsShare, FitsShare, IsChosen, Share}
+use Rattle.airy_math.specs.Splits.{runs}
+use Rattle.amp_plan.specs.Measures.{gain, loss}
 use Rattle.amp_plan.specs.declared.pair.Pair.{Pair}
 use Rattle.amp_plan.proofs.SplitWalkLemmas.{part_of}
 use Rattle.amp_plan.proofs.ChoiceLemmas.{all-both, fits-all}
@@ -36,10 +25,10 @@ all_fit p h I is room right =
     (all-standing (IsPartOf (tensors_of p) p.bound h.genus h.k) [] (splits I) (splits I) refl (λ before after u e. part_of (tensors_of p) p.bound h.genus h.k I before after u room few bytes is.genus e))
     (splits-add h.per_n I)
 
-pub chosen_first : (p : Planning) (h : Share) (I : List ℕ) (up down : ℕ) → IsShare p h → HasRoom (tensors_of p) p.bound h.genus I → IsMeasured h.per_n (h.pair.b ∷ I) h.right → up ≡ gain h.per_n I → down ≡ loss h.per_n I
+pub chosen_first : {p : Planning} {h : Share} {I : List ℕ} {up down : ℕ} → IsShare p h → HasRoom (tensors_of p) p.bound h.genus I → IsMeasured h.per_n (h.pair.b ∷ I) h.right → up ≡ gain h.per_n I → down ≡ loss h.per_n I
     → IsChosen p h (runs I) (record { part = record { places = 0; excess = pos 0; code = 0 }; ways = 1; gain = up; loss = down }) no_split
 unfolding no_split
-chosen_first p h I up down is room right e f =
+chosen_first {p} {h} {I} {up} {down} is room right e f =
     let few : length I ≤ 25 = omega (arith, room.level, is.bound) in
     let short : whole_length (runs I) ≤ 25 = omega (arith, few, length-runs I) in
     let power : 2 ^ whole_length (runs I) ≤ 2 ^ 25 = pow-le-pow_right (lit≤ tt) short in
@@ -60,10 +49,10 @@ pub record IsBegun (p : Planning) (h : Share) (I : List ℕ) (products : List Ra
   pub right : IsMeasured h.per_n (h.pair.b ∷ I) h.right
   pub all : of_share p h I ≡ products
 
-pub begun : (p : Planning) (h : Share) (I : List ℕ) (g k : ℕ) (pair : Pair) → IsShare p h → h.genus ≡ g → h.k ≡ k → h.pair ≡ pair → HasRoom (tensors_of p) p.bound g I → IsMeasured (per_n p.tensors.shape) (pair.b ∷ I) h.right
+pub begun : {p : Planning} {h : Share} {I : List ℕ} {g k : ℕ} {pair : Pair} → IsShare p h → h.genus ≡ g → h.k ≡ k → h.pair ≡ pair → HasRoom (tensors_of p) p.bound g I → IsMeasured (per_n p.tensors.shape) (pair.b ∷ I) h.right
     → IsBegun p h I (genus_part p g I pair.a pair.b pair.weight k)
 unfolding of_share
-begun p h I g k pair is e f i room right = record {
+begun {p} {h} {I} {g} {k} {pair} is e f i room right = record {
   room = subst (λ n. HasRoom (tensors_of p) p.bound n I) (sym e) room;
   right = subst (λ z. IsMeasured z (h.pair.b ∷ I) h.right) (sym is.law) (subst (λ (q : Pair). IsMeasured (per_n p.tensors.shape) (q.b ∷ I) h.right) (sym i) right);
   all = λ j. genus_part p (e j) I (i j).a (i j).b (i j).weight (f j);

@@ -1,6 +1,5 @@
 -- What the tests of walks need: an index at a place stands in its list, and a visitor may allow all ranks.
-use Rattle.std.proofs.Common.{◌≡◌, ℕ, suc, zero, ◌<◌, Bool, true, false, List, [], ◌∷◌, length, arith}
-use Rattle.std.specs.Prelude.{nat_eq, slice_index}
+use Rattle.std.proofs.Common.{◌≡◌, ℕ, suc, zero, ◌<◌, Bool, true, false, List, [], ◌∷◌, length, arith, nat_eq, slice_index}
 use Rattle.airy_math.specs.Keys.{times, more}
 use Rattle.amp_plan.specs.Ranked.{RankedTerm, ranks_of, AreAllowed, NameAllowed}
 

@@ -1,19 +1,10 @@
 -- The sums that a shape covers, as a window.
-use Rattle.std.proofs.Common.{◌≡◌, ℕ, suc, ◌+◌, ◌*◌, ◌<◌, ◌≤◌, true, refl, arith}
-use Rattle.std.specs.Prelude.{ℤ, pos, negsuc, ◌+ℤ◌, ◌-ℤ◌, ◌*ℤ◌}
-use Rattle.std.specs.Int.RustNames.{unsigned_abs}
-use lib.Signed.{le_z, ◌≤ℤ◌, ◌<ℤ◌}
-use Rattle.std.proofs.lemmas.Int.{ints}
-use Rattle.airy_math.specs.Shapes.{eq_z, law_number, per_g, per_n}
-use Rattle.airy_math.specs.declared.Law.{Law}
-use Rattle.airy_math.specs.declared.Shape.{Shape}
-use Rattle.airy_math.specs.declared.Shape.TheVariants.{All, Exact, AtMost}
-use Rattle.airy_math.specs.Cuts.{letter_of, room, law_at, natural}
-use Rattle.airy_math.specs.Keys.{Key, total}
-use lib.ListN.{length}
+use Rattle.std.proofs.Common.{◌≡◌, ℕ, suc, ◌+◌, ◌*◌, ◌<◌, ◌≤◌, true, refl, arith, ℤ, pos, negsuc, ◌+ℤ◌, ◌-ℤ◌, ◌*ℤ◌, ◌≤ℤ◌, ◌<ℤ◌, length}
+use Rattle.amp_plan.proofs.Words.{unsigned_abs, le_z, ints, eq_z, law_number, per_n, Shape, All, Exact, AtMost, letter_of, natural, Key, total, IsSmallLaw, is_in}
 use Rattle.std.proofs.lemmas.Int.{unsigned_abs-mul}
-use Rattle.sparse_tensor.specs.Grades.{IsSmallLaw}
-use Rattle.amp_plan.specs.Listing.{is_in}
+use Rattle.airy_math.specs.Shapes.{per_g}
+use Rattle.airy_math.specs.declared.Law.{Law}
+use Rattle.airy_math.specs.Cuts.{room, law_at}
 
 pub only_at : (z : ℤ) (n : ℕ) → z ≡ pos n → (s : ℕ) → eq_z (pos s) z ≡ is_in (record { low = n; high = n }) s
 unfolding eq_z is_in

@@ -1,5 +1,5 @@
 -- What rankings and plans keep.
-use Prim.Native.Nat.{ℕ, ◌+◌, ◌<◌, ◌≤◌}
+use Prim.Native.Nat.{ℕ, ◌<◌, ◌≤◌}
 use mathlib.Core.Path.{◌≡◌}
 use mathlib.Core.List.{List, []}
 use lib.ListN.{length, get_or}

@@ -4,13 +4,14 @@ use mathlib.Core.Path.{◌≡◌}
 use lib.IntN.{ℤ}
 use Rattle.std.specs.List.{AllByRecursion}
 use Rattle.airy_math.specs.Splits.{runs}
-use Rattle.amp_plan.specs.Measures.{IsMeasured, gain, loss}
+use Rattle.amp_plan.specs.Measures.{IsMeasured, IsLight, gain, loss}
 use Rattle.amp_plan.specs.declared.rest.Rest.{Rest}
 
--- Bytes with their runs, their measure, and how far the excess of a part of it can rise and fall.
+-- Bytes with their runs, their measure, which is small, and how far the excess of a part of it can rise and fall.
 pub record IsRest (c : ℤ) (rest : Rest) : Type 0 where
   pub bytes : AllByRecursion (λ x. x < 256) rest.list.items
   pub runs : rest.runs.items ≡ runs rest.list.items
   pub whole : IsMeasured c rest.list.items rest.whole
+  pub light : IsLight rest.whole
   pub gain : rest.gain ≡ gain c rest.list.items
   pub loss : rest.loss ≡ loss c rest.list.items

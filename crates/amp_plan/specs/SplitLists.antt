@@ -1,7 +1,11 @@
 -- The splits of a list with what a walk needs of each, in their order.
 use Prim.Native.Nat.{ℕ, suc, ◌+◌, ◌*◌, ◌-◌, ◌%◌, ◌≤◌, ◌<◌, ◌^◌}
 use mathlib.Core.Path.{◌≡◌}
-use mathlib.Core.List.{List, [], ◌∷◌, map}
+use mathlib.Core.Bool.{Bool, false, not}
+use mathlib.Core.List.{List, [], ◌∷◌, ◌++◌, map}
+use lib.Dec.{eqb}
+use Rattle.std.specs.Prelude.{Option, Some, None}
+use Rattle.item_chains.specs.Chains.{from_first}
 use lib.ListN.{length}
 use lib.IntN.{ℤ, pos, ◌+ℤ◌}
 use Rattle.std.specs.List.{AllByRecursion}
@@ -34,6 +38,20 @@ chosen_of l = record { part = record { places = l.places; excess = l.excess; cod
 -- all splits as they are listed, each with its chain
 unfoldable pub all_listed : ℤ → List Split → List (ℕ × Listed)
 all_listed c ss = map (λ s. (chain (excess c s.part), listed_of (numbers_of c s))) ss
+
+-- the numbers of the splits that are passed over on a walk along a chain; without a chain, of none
+unfoldable pub is_passed : Option ℕ → ℕ → Bool
+is_passed None m = false
+is_passed (Some n) m = not (eqb m n)
+
+-- how many splits there are from the first one that is met on
+unfoldable pub first_with : {T : Type 0} → Option ℕ → List (ℕ × T) → ℕ
+first_with None xs = length xs
+first_with (Some n) xs = from_first n xs
+
+-- The answer is the split from which on there are so many, if it is met, with how many there are from the next one that is met on.
+abbrev pub MeetsAt : {T : Type 0} → Option ℕ → List (ℕ × T) → ℕ → T × ℕ → Type 0
+MeetsAt {T} k xs left r = (before after : List (ℕ × T)) (x : ℕ × T) → before ++ x ∷ after ≡ xs → left ≡ suc (length after) → is_passed k x.0 ≡ false → r ≡ (x.1, first_with k after)
 
 -- the split with t copies of the first run's index, where a run is left
 unfoldable pub taken_so : Split → List (ℕ × ℕ) → ℕ → Split

@@ -1,7 +1,7 @@
 // The products of a pair by codes: parts are chosen run by run, and those that can't come where both keys are covered are passed
 // over. This is the walk where codes tell all keys of the plan apart. Where two keys have one code, `walk_splits` makes each key and
 // looks for it in their order; no plan is known at which that happens, and with it nothing need be stated of codes.
-ghost use Rattle.std.specs.Prelude.{◌≡◌, ◌≤◌, ◌<◌, ◌+◌, ◌-◌, ◌*◌, ◌/◌, ◌^◌, ◌+ℤ◌, ◌-ℤ◌, ◌∷◌, [], ℕ, pos, true, length};
+ghost use Rattle.std.specs.Prelude.{◌≡◌, ◌≤◌, ◌<◌, ◌+◌, ◌-◌, ◌*◌, ◌/◌, ◌^◌, ◌+ℤ◌, ◌-ℤ◌, ◌∷◌, [], ℕ, pos, true, length, Some};
 ghost use Rattle.std.specs.Int.RustNames.{unsigned_abs};
 ghost use Rattle.airy_math.specs.Cuts.{natural};
 ghost use Rattle.airy_math.specs.Shapes.{per_n as shape_per_n};
@@ -11,7 +11,7 @@ ghost use Rattle.amp_plan.specs.Ranked.{NameAllowed, Takes};
 ghost use Rattle.amp_plan.specs.Rests.{IsRest};
 ghost use Rattle.amp_plan.specs.Walk.{HasRoom, genus_part};
 ghost use Rattle.amp_plan.specs.Measures.{IsLight, IsMeasured};
-ghost use Rattle.amp_plan.specs.SplitLists.{all_listed};
+ghost use Rattle.amp_plan.specs.SplitLists.{chain, all_listed};
 ghost use Rattle.amp_plan.specs.Shares.{can_reach as reached, choice_part, of_share, IsShare, IsChosen, CanGoOn};
 
 use crate::finding::find_live;
@@ -142,10 +142,9 @@ pub(crate) fn walk_reachable<V: TermVisitor>(
     if !share.can_reach(chosen) {
         return;
     }
-    if left.is_empty() {
-        walk_chosen(ranking, index, share, chosen, visitor);
-    } else {
-        walk_choices(ranking, index, share, left, chosen, visitor);
+    match left.split_first() {
+        None => walk_chosen(ranking, index, share, chosen, visitor),
+        Some((run, others)) => walk_choices(ranking, index, share, *run, others, chosen, visitor),
     }
 }
 
@@ -155,20 +154,17 @@ fn walk_choices<V: TermVisitor>(
     ranking: &Ranking,
     index: &KeyIndex,
     share: &Share,
-    left: &[(u8, u8)],
+    run: (u8, u8),
+    others: &[(u8, u8)],
     chosen: &Chosen,
     visitor: &mut V,
 )
     requires keys { index.now.keys ≡ keys_of ranking.now }
     requires exact { index.now.exact ≡ true }
     requires share { IsShare ranking.now share.now }
-    requires go_on { CanGoOn (V.allows visitor.old) ranking.now share.now left.now chosen.now }
-    requires some { 0 < length left.now }
-    ensures { (s : Split) → IsChosen ranking.now share.now left.now chosen.now s → Takes V.allows V.state V.step (choice_part ranking.now share.now s left.now) visitor.old visitor.new }
+    requires go_on { CanGoOn (V.allows visitor.old) ranking.now share.now (run ∷ others.now) chosen.now }
+    ensures { (s : Split) → IsChosen ranking.now share.now (run ∷ others.now) chosen.now s → Takes V.allows V.state V.step (choice_part ranking.now share.now s (run ∷ others.now)) visitor.old visitor.new }
 {
-    let Some((run, others)) = left.split_first() else {
-        unreachable!()
-    };
     let item = Measure::of(index, share.per_n, run.0);
     let mut next = chosen.before(&item, run.1);
     let mut taken = 0;
@@ -240,7 +236,18 @@ impl Share {
     }
 }
 
-/// Hands over the products of the listed splits whose part has the one excess at which both keys are covered.
+/// The chain of the one excess that the part of a product can have, where there is one.
+fn only_chain(share: &Share) -> Option<u8>
+    ensures only { (n : ℕ) → result ≡ Some n → (share.now.low ≡ share.now.high) × (n ≡ chain share.now.low) }
+    ensures below { (n : ℕ) → result ≡ Some n → n < 64 }
+{
+    if share.low != share.high || share.low.unsigned_abs() > 1 << 29 {
+        return None;
+    }
+    Some(chain_of(share.low))
+}
+
+/// Hands over the products of the listed splits: of those in the one chain where there is one, and else of all.
 fn walk_listed<const N: usize, V: TermVisitor>(
     ranking: &Ranking,
     index: &KeyIndex,
@@ -251,44 +258,18 @@ fn walk_listed<const N: usize, V: TermVisitor>(
     requires keys { index.now.keys ≡ keys_of ranking.now }
     requires exact { index.now.exact ≡ true }
     requires share { IsShare ranking.now share.now }
-    requires one { share.now.low ≡ share.now.high }
-    requires small { unsigned_abs share.now.low ≤ 2 ^ 29 }
     requires room { HasRoom (tensors_of ranking.now) ranking.now.bound share.now.genus list.now.rest.list.items }
     requires right { IsMeasured share.now.per_n (share.now.pair.b ∷ list.now.rest.list.items) share.now.right }
     requires listed { list.now.splits ≡ all_listed share.now.per_n (splits list.now.rest.list.items) }
     requires allowed { NameAllowed (V.allows visitor.old) (of_share ranking.now share.now list.now.rest.list.items) }
     ensures { Takes V.allows V.state V.step (of_share ranking.now share.now list.now.rest.list.items) visitor.old visitor.new }
 {
-    let mut left = list.splits.first(chain_of(share.low));
+    let chain = only_chain(share);
+    let mut left = list.first_met(chain);
     while left > 0 {
-        let (split, next) = list.splits.at(left as usize);
+        let (split, next) = list.met_at(chain, left);
         walk_chosen(ranking, index, share, &split.chosen(), visitor);
         left = next;
-    }
-}
-
-/// Hands over the products of all splits that are listed.
-fn walk_whole<const N: usize, V: TermVisitor>(
-    ranking: &Ranking,
-    index: &KeyIndex,
-    share: &Share,
-    list: &SplitList<N>,
-    visitor: &mut V,
-)
-    requires keys { index.now.keys ≡ keys_of ranking.now }
-    requires exact { index.now.exact ≡ true }
-    requires share { IsShare ranking.now share.now }
-    requires room { HasRoom (tensors_of ranking.now) ranking.now.bound share.now.genus list.now.rest.list.items }
-    requires right { IsMeasured share.now.per_n (share.now.pair.b ∷ list.now.rest.list.items) share.now.right }
-    requires listed { list.now.splits ≡ all_listed share.now.per_n (splits list.now.rest.list.items) }
-    requires allowed { NameAllowed (V.allows visitor.old) (of_share ranking.now share.now list.now.rest.list.items) }
-    ensures { Takes V.allows V.state V.step (of_share ranking.now share.now list.now.rest.list.items) visitor.old visitor.new }
-{
-    let mut left = list.splits.len();
-    while left > 0 {
-        let (split, _) = list.splits.at(left);
-        walk_chosen(ranking, index, share, &split.chosen(), visitor);
-        left -= 1;
     }
 }
 
@@ -316,12 +297,7 @@ pub(crate) fn walk_share<const N: usize, V: TermVisitor>(
     ranking.is_small();
     let share = Share::of(ranking, genus, &list.rest, pair, k);
     if list.whole {
-        if share.low == share.high && share.low.unsigned_abs() <= 1 << 29 {
-            walk_listed(ranking, index, &share, list, visitor);
-        } else {
-            walk_whole(ranking, index, &share, list, visitor);
-        }
-        return;
+        return walk_listed(ranking, index, &share, list, visitor);
     }
     let chosen = Chosen {
         part: Measure {

@@ -1,12 +1,12 @@
 // All splits of what is left of a key, listed once a pivot. Where the shape has one excess for the part of each product, an entry of
 // C and a genus meet the splits of that excess in their order, and no other.
-ghost use Rattle.std.specs.Prelude.{◌≡◌, ◌≤◌, ◌<◌, ◌+◌, ◌*◌, ◌^◌, ◌++◌, ◌∷◌, [], ℕ, List, true, length};
+ghost use Rattle.std.specs.Prelude.{◌≡◌, ◌≤◌, ◌<◌, ◌+◌, ◌*◌, ◌^◌, ◌++◌, ◌∷◌, [], ℕ, List, Option, Some, true, length};
 ghost use Rattle.std.specs.Int.RustNames.{unsigned_abs};
 ghost use Rattle.airy_math.specs.Shapes.{per_n as shape_per_n};
 ghost use Rattle.airy_math.specs.Splits.{Split, splits};
 ghost use Rattle.amp_plan.specs.Rests.{IsRest};
 ghost use Rattle.amp_plan.specs.declared.split_list.Listed.{Listed as ListedNumbers};
-ghost use Rattle.amp_plan.specs.SplitLists.{chain, listed_of, chosen_of, numbers_of, taken_so, going_on, all_listed, CanBeListed};
+ghost use Rattle.amp_plan.specs.SplitLists.{chain, listed_of, chosen_of, numbers_of, taken_so, going_on, all_listed, first_with, MeetsAt, CanBeListed};
 
 use crate::measure::{Measure, above_zero, per_n};
 use crate::ranking::Ranking;
@@ -115,42 +115,67 @@ fn list_splits<L: SplitTaker>(
     requires listable { CanBeListed per_n left.now 0 chosen.now }
     ensures { (s : Split) → chosen.now ≡ numbers_of per_n (taken_so s left.now 0) → result ≡ true → L.holds listed.new ≡ all_listed per_n (going_on s left.now 0) ++ L.holds listed.old }
 {
-    if left.is_empty() {
-        return listed.put(chain_of(chosen.part.excess), Listed::of(chosen));
+    match left.split_first() {
+        None => listed.put(chain_of(chosen.part.excess), Listed::of(chosen)),
+        Some((run, others)) => list_copies(index, per_n, *run, others, chosen, 0, listed),
     }
-    list_copies(index, per_n, left, chosen, 0, listed)
 }
 
-/// The same where the part has some copies of the first run's index, of the splits with at least as many.
+/// The same where a run is left and the part has some copies of its index, of the splits with at least as many.
 #[cycle(lists)]
 fn list_copies<L: SplitTaker>(
     index: &KeyIndex,
     per_n: i64,
-    left: &[(u8, u8)],
+    run: (u8, u8),
+    others: &[(u8, u8)],
     chosen: &Chosen,
     taken: u8,
     listed: &mut L,
 ) -> bool
     requires law { unsigned_abs per_n ≤ 99 }
-    requires listable { CanBeListed per_n left.now taken chosen.now }
-    requires some { 0 < length left.now }
-    ensures { (s : Split) → chosen.now ≡ numbers_of per_n (taken_so s left.now taken) → result ≡ true → L.holds listed.new ≡ all_listed per_n (going_on s left.now taken) ++ L.holds listed.old }
+    requires listable { CanBeListed per_n (run ∷ others.now) taken chosen.now }
+    ensures { (s : Split) → chosen.now ≡ numbers_of per_n (taken_so s (run ∷ others.now) taken) → result ≡ true → L.holds listed.new ≡ all_listed per_n (going_on s (run ∷ others.now) taken) ++ L.holds listed.old }
 {
-    let Some((run, others)) = left.split_first() else {
-        unreachable!()
-    };
-    let item = Measure::of(index, per_n, run.0);
     if taken == run.1 {
         return list_splits(index, per_n, others, chosen, listed);
     }
+    let item = Measure::of(index, per_n, run.0);
     let more = chosen.one_more(&item, run.1, taken);
-    if !list_copies(index, per_n, left, &more, taken + 1, listed) {
+    if !list_copies(index, per_n, run, others, &more, taken + 1, listed) {
         return false;
     }
     list_splits(index, per_n, others, chosen, listed)
 }
 
 impl<const N: usize> SplitList<N> {
+    /// How many splits there are from the first one that is met on: of the chain, or where there is none, of all.
+    #[tactic(auto, unfolding(crate::specs::SplitLists::first_with))]
+    #[inline]
+    pub(crate) fn first_met(&self, chain: Option<u8>) -> usize
+        requires { (n : ℕ) → chain ≡ Some n → n < 64 }
+        ensures { result ≡ first_with chain self.now.splits }
+    {
+        match chain {
+            Some(chain) => self.splits.first(chain) as usize,
+            None => self.splits.len(),
+        }
+    }
+
+    /// The split from which on there are so many, and how many there are from the next one that is met on.
+    #[tactic(auto, unfolding(crate::specs::SplitLists::first_with, crate::specs::SplitLists::is_passed))]
+    #[inline]
+    pub(crate) fn met_at(&self, chain: Option<u8>, left: usize) -> (Listed, usize)
+        requires some { 0 < left }
+        requires within { left ≤ length self.now.splits }
+        ensures { MeetsAt chain self.now.splits left result }
+    {
+        let (split, next) = self.splits.at(left);
+        match chain {
+            Some(_) => (split, next as usize),
+            None => (split, left - 1),
+        }
+    }
+
     /// Lists the splits. Without room none is listed.
     pub(crate) fn list_all(&mut self, ranking: &Ranking)
         requires rest { IsRest (shape_per_n ranking.now.tensors.shape) self.old.rest }

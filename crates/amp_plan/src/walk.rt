@@ -50,18 +50,34 @@ pub(crate) fn walk_ranked<V: TermVisitor>(ranking: &Ranking, key: &Key, pivot: u
     ensures { Takes V.allows V.state V.step (all_ranked (rank_at ranking.now) (terms (tensors_of ranking.now) pivot key.now.g (remove pivot key.now.idx))) visitor.old visitor.new }
 {
     key.validity_fact();
-    let genus = key.g();
     let rest = without(key.idx(), pivot);
-    let rest = rest.as_slice();
+    walk_rest(ranking, key.g(), pivot, rest.as_slice(), visitor);
+}
+
+/// The same of a genus and what is left of the indices without the pivot.
+fn walk_rest<V: TermVisitor>(ranking: &Ranking, genus: u8, pivot: u8, rest: &[u8], visitor: &mut V)
+    requires room { HasRoom (tensors_of ranking.now) ranking.now.bound genus rest.now }
+    requires few { length rest.now ≤ 25 }
+    requires allowed { NameAllowed (V.allows visitor.old) (all_ranked (rank_at ranking.now) (terms (tensors_of ranking.now) pivot genus rest.now)) }
+    ensures { Takes V.allows V.state V.step (all_ranked (rank_at ranking.now) (terms (tensors_of ranking.now) pivot genus rest.now)) visitor.old visitor.new }
+{
     match (genus, rest.len()) {
         (0, 2) => visitor.alone(ranking.tensors().a(pivot, rest[0], rest[1])),
         (1, 0) => visitor.alone(ranking.tensors().d(pivot)),
-        _ => {
-            let rest = Rest::of(ranking, rest);
-            walk_b(ranking, genus, pivot, &rest, visitor);
-            walk_c(ranking, genus, pivot, rest, visitor);
-        }
+        _ => walk_parts(ranking, genus, pivot, rest, visitor),
     }
+}
+
+/// Hands over the B terms and the C terms.
+fn walk_parts<V: TermVisitor>(ranking: &Ranking, genus: u8, pivot: u8, rest: &[u8], visitor: &mut V)
+    requires room { HasRoom (tensors_of ranking.now) ranking.now.bound genus rest.now }
+    requires few { length rest.now ≤ 25 }
+    requires allowed { NameAllowed (V.allows visitor.old) (b_part ranking.now pivot genus rest.now ++ c_part ranking.now pivot genus rest.now) }
+    ensures { Takes V.allows V.state V.step (b_part ranking.now pivot genus rest.now ++ c_part ranking.now pivot genus rest.now) visitor.old visitor.new }
+{
+    let rest = Rest::of(ranking, rest);
+    walk_b(ranking, genus, pivot, &rest, visitor);
+    walk_c(ranking, genus, pivot, rest, visitor);
 }
 
 /// Hands over the B terms.

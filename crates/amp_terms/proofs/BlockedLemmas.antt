@@ -1,16 +1,14 @@
 -- A blocked rank rests on a lower one.
-use Rattle.std.proofs.Common.{◌≡◌, ◌⊎◌, inl, inr, ℕ, ◌<◌, ◌≤◌, min, Bool, true, false, List, [], ◌∷◌, length, Option, Some, None, arith, refl, sym, ap, ◌∙◌, subst}
+use Rattle.std.proofs.Common.{◌≡◌, ◌⊎◌, inl, inr, ℕ, ◌<◌, ◌≤◌, min, Bool, true, false, List, [], ◌∷◌, length, Option, Some, None, arith, refl, sym, ◌∙◌, subst}
 use Rattle.std.proofs.lemmas.Bool.{cases_lt}
 use Rattle.std.specs.Prelude.{cond}
 use Rattle.airy_math.specs.Rational.{ℚ}
-use Rattle.airy_math.specs.Keys.{head_or, remove}
-use Rattle.airy_math.specs.Terms.{terms, obtained_pivot_sum}
 use Rattle.amp_plan.specs.Needs.{AreNeeds}
 use Rattle.amp_plan.specs.Plans.{Planning, tensors_of, keys_of, key_at}
 use Rattle.amp_plan.specs.Ranked.{AreAllowed}
 use Rattle.amp_terms.specs.declared.Outcome.{Outcome}
 use Rattle.amp_terms.specs.declared.Outcome.TheVariants.{Blocked}
-use Rattle.amp_terms.specs.Outcomes.{has_value, smaller, outcome_from, ranks_named, outcome_at}
+use Rattle.amp_terms.specs.Outcomes.{has_value, smaller, outcome_from, outcome_at}
 use Rattle.amp_terms.specs.Pivots.{least_without, pivot_outcome}
 use Rattle.amp_terms.proofs.NamedLemmas.{named_below}
 use Rattle.amp_terms.proofs.OutcomeLemmas.{outcome_known}

@@ -1,5 +1,5 @@
 -- A table that is filled from rank 0 on.
-use Rattle.std.proofs.Common.{◌≡◌, ℕ, suc, zero, ◌+◌, ◌-◌, ◌<◌, ◌≤◌, Bool, true, false, List, [], ◌∷◌, ◌++◌, map, length, drop, get_or, set, replicate, Option, Some, None, refl, sym, ap, ap₂, subst, ◌∙◌, arith, length-append, append-nil}
+use Rattle.std.proofs.Common.{◌≡◌, ℕ, suc, zero, ◌+◌, ◌-◌, ◌<◌, ◌≤◌, List, [], ◌∷◌, ◌++◌, map, length, drop, get_or, set, replicate, Option, Some, None, refl, sym, ap, ap₂, subst, ◌∙◌, arith, length-append, append-nil}
 use Rattle.std.specs.Prelude.{cond, IsSome}
 use Rattle.std.specs.Option.{unwrap_or}
 use Rattle.std.proofs.lemmas.List.{drop_more, at_drop_all}
@@ -8,10 +8,10 @@ use Rattle.airy_math.specs.Tensors.{Tensors}
 use Rattle.airy_math.specs.Terms.{terms, obtained_pivot_sum}
 use Rattle.airy_math.specs.Ranks as ranks
 use Rattle.amp_terms.specs.declared.Outcome.{Outcome}
-use Rattle.amp_terms.specs.declared.Outcome.TheVariants.{Value, Over, Blocked}
-use Rattle.amp_terms.specs.Outcomes.{has_value, smaller, least_blocked, value_in, ranks_named, outcome_from, outcome_of, outcomes_after, outcomes}
+use Rattle.amp_terms.specs.declared.Outcome.TheVariants.{Over}
+use Rattle.amp_terms.specs.Outcomes.{has_value, smaller, least_blocked, value_in, ranks_named, outcome_from, outcome_of, outcomes_after}
 use Rattle.amp_terms.specs.Pivots.{least_without, number_at, pivot_outcome, listed}
-use Rattle.amp_terms.specs.Tables.{shown_in, full_table, IsFilled}
+use Rattle.amp_terms.specs.Tables.{shown_in, IsFilled}
 
 blocked_is : (done : List Outcome) (rs : List ℕ) → least_blocked done rs ≡ least_without (listed done) rs
 unfolding least_blocked least_without listed

@@ -1,6 +1,5 @@
 -- The ranks that the terms of a planned key name.
-use Rattle.std.proofs.Common.{◌≡◌, ℕ, ◌<◌, List, [], ◌∷◌, ◌++◌, map, length, refl, inl, inr}
-use Rattle.std.specs.Prelude.{◌⊎◌, slice_index}
+use Rattle.std.proofs.Common.{ℕ, ◌<◌, List, [], ◌∷◌, ◌++◌, map, length, refl, inl, inr}
 use Rattle.airy_math.specs.Keys.{Key, head_or, remove, times}
 use Rattle.airy_math.specs.NeedsFirst.{NeedsLaw}
 use Rattle.airy_math.specs.Planned.{IsPlanned, planned}
@@ -13,17 +12,7 @@ use Rattle.amp_plan.specs.Needs.{AreNeeds}
 use Rattle.amp_plan.specs.Plans.{Planning, tensors_of, keys_of, key_at}
 use Rattle.amp_plan.specs.Ranked.{AreAllowed}
 use Rattle.amp_terms.specs.Outcomes.{ranks_named}
-
-stands-left : (k : Key) (xs ys : List Key) → StandsIn k xs → StandsIn k (xs ++ ys)
-unfolding StandsIn
-stands-left k [] ys h = absurd h
-stands-left k (x ∷ xs) ys (inl e) = inl e
-stands-left k (x ∷ xs) ys (inr h) = inr (stands-left k xs ys h)
-
-stands-right : (k : Key) (xs ys : List Key) → StandsIn k ys → StandsIn k (xs ++ ys)
-unfolding StandsIn
-stands-right k [] ys h = h
-stands-right k (x ∷ xs) ys h = inr (stands-right k xs ys h)
+use Rattle.amp_plan.proofs.NeedLemmas.{stands-left, stands-right}
 
 allowed-append : (P : ℕ → Type 0) (rs qs : List ℕ) → AreAllowed P rs → AreAllowed P qs → AreAllowed P (rs ++ qs)
 unfolding AreAllowed
@@ -69,8 +58,3 @@ least_stands T X key h = head_stands key.idx h.places
 pub rank_planned : (p : Planning) (r : ℕ) → ListsPlanned (tensors_of p) p.bound → r < length (keys_of p) → IsPlanned (tensors_of p) p.bound (key_at p r)
 unfolding keys_of key_at
 rank_planned p r lists h = lists.only r h
-
-pub head-index : (xs : List ℕ) → head_or 0 xs ≡ slice_index xs 0
-unfolding head_or
-head-index [] = refl
-head-index (x ∷ xs) = refl

@@ -1,17 +1,16 @@
 -- A pivot sum that is made term by term is the defined one.
-use Rattle.std.proofs.Common.{◌≡◌, ℕ, suc, zero, Bool, true, false, List, [], ◌∷◌, ◌++◌, map, Option, Some, None, refl, sym, ap, ap₂, subst, ◌∙◌, arith}
+use Rattle.std.proofs.Common.{◌≡◌, ℕ, Bool, true, false, List, [], ◌∷◌, ◌++◌, map, Option, Some, None, refl, sym, ap, ap₂, subst, ◌∙◌, arith}
 use Rattle.std.specs.Prelude.{cond, min}
 use Rattle.airy_math.specs.Rational.{ℚ}
 use Rattle.airy_math.specs.RationalLaws.{0ℚ}
 use Rattle.amp_terms.specs.declared.Outcome.{Outcome}
-use Rattle.amp_terms.specs.declared.Outcome.TheVariants.{Value, Over, Blocked}
 use Rattle.airy_math.specs.Sums.{each}
 use Rattle.airy_math.specs.Keys.{Key, remove}
 use Rattle.airy_math.specs.Terms as math
 use Rattle.airy_math.specs.Terms.{Term, named, terms, obtained_term, obtained_pivot_sum}
 use Rattle.airy_math.specs.Ranks.{place_of}
 use Rattle.amp_plan.specs.Plans.{Planning, keys_of, rank_at, tensors_of}
-use Rattle.amp_terms.specs.Outcomes.{ranks_named, smaller, has_value, value_or_zero, outcome_from}
+use Rattle.amp_terms.specs.Outcomes.{ranks_named, smaller, has_value, outcome_from}
 use Rattle.airy_math.specs.Obtained.{obtained_from}
 use Rattle.amp_plan.specs.Ranked.{RankedTerm, ranked, all_ranked, ranks_of, obtained_at, after_terms, AreAllowed, NameAllowed}
 use Rattle.amp_terms.specs.Pivots.{Summing, with_term, all_noted, noted, number_at, least_without, pivot_outcome}
@@ -97,11 +96,11 @@ smaller-merged r None o = refl
 smaller-merged r (Some s) None = let e : min r s ≡ min s r = omega arith in ap Some e
 smaller-merged r (Some s) (Some q) = let e : min (min r s) q ≡ min s (min r q) = omega arith in ap Some e
 
-noted-value : (b : Option ℕ) (r : ℕ) (o : Outcome) → has_value o ≡ true → noted b r o ≡ b
+pub noted-value : (b : Option ℕ) (r : ℕ) (o : Outcome) → has_value o ≡ true → noted b r o ≡ b
 unfolding noted
 noted-value b r o e = rw e refl
 
-noted-none : (b : Option ℕ) (r : ℕ) (o : Outcome) → has_value o ≡ false → noted b r o ≡ smaller r b
+pub noted-none : (b : Option ℕ) (r : ℕ) (o : Outcome) → has_value o ≡ false → noted b r o ≡ smaller r b
 unfolding noted
 noted-none b r o e = rw e refl
 
@@ -118,19 +117,6 @@ noted-merged shown b (r ∷ rs) = noted-merged shown (noted b r (shown r)) rs �
 pub noted-least : (shown : ℕ → Outcome) (rs : List ℕ) → all_noted shown None rs ≡ least_without shown rs
 unfolding merged
 noted-least shown rs = noted-merged shown None rs
-
--- an outcome that is no Value is noted, and stands for 0
-pub noted-without : (b : Option ℕ) (r : ℕ) (o : Outcome) → ((v : ℚ) → o ≡ Value v → ⊥) → noted b r o ≡ smaller r b
-unfolding noted has_value
-noted-without b r (Value v) d = absurd (d v refl)
-noted-without b r Over d = refl
-noted-without b r (Blocked q) d = refl
-
-pub zero-without : (o : Outcome) → ((v : ℚ) → o ≡ Value v → ⊥) → value_or_zero o ≡ 0ℚ
-unfolding value_or_zero
-zero-without (Value v) d = absurd (d v refl)
-zero-without Over d = refl
-zero-without (Blocked q) d = refl
 
 -- ---- what is obtained
 

@@ -1,10 +1,17 @@
 -- The least rank without a Value, found from left to right.
-use Rattle.std.proofs.Common.{◌≡◌, ℕ, suc, zero, ◌+◌, ◌<◌, ◌≤◌, List, [], ◌∷◌, Bool, true, false, length, drop, get_or, refl, sym, ap, ◌∙◌, arith, Option, Some, None}
+use Rattle.std.proofs.Common.{◌≡◌, ℕ, suc, zero, ◌+◌, ◌<◌, ◌≤◌, List, ◌∷◌, true, false, length, drop, get_or, refl, sym, ap, ◌∙◌, arith, Option, Some, None, ℤ, map, replicate, not, eqb}
 use Rattle.std.proofs.lemmas.List.{at_drop_more, at_drop_all}
 use Rattle.airy_math.specs.Rational.{ℚ}
 use Rattle.amp_terms.specs.declared.Outcome.{Outcome}
 use Rattle.amp_terms.specs.declared.Outcome.TheVariants.{Value, Over, Blocked}
-use Rattle.amp_terms.specs.Tables.{first_without, next_rank, holds_value}
+use Rattle.std.specs.Option.{unwrap_or, is_some}
+use Rattle.airy_math.specs.RationalLaws.{0ℚ}
+use Rattle.amp_terms.specs.Outcomes.{has_value, value_or_zero}
+use Rattle.running_sum.specs.Kept.{fraction_of}
+use Rattle.running_sum.proofs.UnreducedLemmas.{some_fraction}
+use Rattle.amp_terms.specs.Cells.{valued, outcome_of}
+use Rattle.amp_terms.specs.declared.cell.Cell.TheVariants as cell
+use Rattle.amp_terms.specs.Tables.{first_without, next_rank, holds_value, value_of, value_of_cell}
 
 -- a rank that was found behind the first i
 unfoldable pub found_behind : ℕ → Option ℕ → Option ℕ
@@ -35,18 +42,75 @@ stopped (Some (Value v)) cells h = cc
 stopped (Some Over) cells h = refl
 stopped (Some (Blocked r)) cells h = refl
 
-at_cell : (cells : List (Option Outcome)) (i : ℕ) (cell : Option Outcome) → i < length cells → cell ≡ get_or cells i cell → first_without (drop i cells) ≡ first_without (cell ∷ drop (i + 1) cells)
-at_cell cells i cell h e = at_drop_more first_without cells i cell h ∙ ap (λ c. first_without (c ∷ drop (i + 1) cells)) (sym e)
+at_cell : (cells : List (Option Outcome)) (i : ℕ) → i < length cells → first_without (drop i cells) ≡ first_without (get_or cells i None ∷ drop (i + 1) cells)
+at_cell cells i h = at_drop_more first_without cells i None h
 
-pub first-passed : (cells : List (Option Outcome)) (i : ℕ) (cell : Option Outcome) → i < length cells → cell ≡ get_or cells i cell → holds_value cell ≡ true → found_behind i (first_without (drop i cells)) ≡ found_behind (i + 1) (first_without (drop (i + 1) cells))
-first-passed cells i cell h e t =
-    ap (found_behind i) (at_cell cells i cell h e ∙ passed cell (drop (i + 1) cells) t) ∙ behind-next i (first_without (drop (i + 1) cells))
+pub first-passed : (cells : List (Option Outcome)) (i : ℕ) → i < length cells → holds_value (get_or cells i None) ≡ true → found_behind i (first_without (drop i cells)) ≡ found_behind (i + 1) (first_without (drop (i + 1) cells))
+first-passed cells i h t =
+    ap (found_behind i) (at_cell cells i h ∙ passed (get_or cells i None) (drop (i + 1) cells) t) ∙ behind-next i (first_without (drop (i + 1) cells))
 
-pub first-here : (cells : List (Option Outcome)) (i : ℕ) (cell : Option Outcome) → i < length cells → cell ≡ get_or cells i cell → holds_value cell ≡ false → found_behind i (first_without (drop i cells)) ≡ Some i
+pub first-here : (cells : List (Option Outcome)) (i : ℕ) → i < length cells → holds_value (get_or cells i None) ≡ false → found_behind i (first_without (drop i cells)) ≡ Some i
 unfolding found_behind
-first-here cells i cell h e t =
-    ap (found_behind i) (at_cell cells i cell h e ∙ stopped cell (drop (i + 1) cells) t) ∙ (let s : i + 0 ≡ i = omega arith in ap Some s)
+first-here cells i h t =
+    ap (found_behind i) (at_cell cells i h ∙ stopped (get_or cells i None) (drop (i + 1) cells) t) ∙ (let s : i + 0 ≡ i = omega arith in ap Some s)
 
 pub first-end : (cells : List (Option Outcome)) (i : ℕ) → length cells ≤ i → found_behind i (first_without (drop i cells)) ≡ None
 unfolding first_without found_behind
 first-end cells i h = ap (found_behind i) (at_drop_all first_without cells i h)
+
+-- ---- what a cell is shown with
+
+pub shown-value : (c : Option Outcome) → value_of (unwrap_or c Over) ≡ value_of_cell c
+unfolding value_of value_of_cell
+shown-value None = refl
+shown-value (Some o) = refl
+
+pub shown-whether : (c : Option Outcome) → has_value (unwrap_or c Over) ≡ holds_value c
+unfolding has_value
+shown-whether None = refl
+shown-whether (Some (Value v)) = refl
+shown-whether (Some Over) = refl
+shown-whether (Some (Blocked r)) = refl
+
+-- the number of a Value, and 0 of any other outcome
+pub of_value : (o : Outcome) → has_value o ≡ true → value_of o ≡ Some (value_or_zero o)
+unfolding value_of has_value value_or_zero
+of_value (Value v) h = refl
+of_value Over h = cc
+of_value (Blocked r) h = cc
+
+pub of_none : (o : Outcome) → has_value o ≡ false → value_or_zero o ≡ 0ℚ
+unfolding has_value value_or_zero
+of_none (Value v) h = cc
+of_none Over h = refl
+of_none (Blocked r) h = refl
+
+pub has_some : (o : Outcome) (v : ℚ) → o ≡ Value v → true ≡ has_value o
+unfolding has_value
+has_some o v e = ap has_value (sym e)
+
+pub none_has : (o : Outcome) → ((v : ℚ) → o ≡ Value v → ⊥) → false ≡ has_value o
+unfolding has_value
+none_has (Value v) d = absurd (d v refl)
+none_has Over d = refl
+none_has (Blocked r) d = refl
+
+-- ---- cells
+
+pub valued-value : (o : Option ℚ) → value_of_cell (valued o) ≡ o
+unfolding valued value_of value_of_cell
+valued-value None = refl
+valued-value (Some v) = refl
+
+pub valued-whether : (o : Option ℚ) → holds_value (valued o) ≡ is_some o
+unfolding valued
+valued-whether None = refl
+valued-whether (Some v) = refl
+
+pub short-whether : (n : ℤ) (d : ℕ) → holds_value (outcome_of (cell.Short n d)) ≡ not (eqb d 0)
+unfolding outcome_of
+short-whether n d = valued-whether (fraction_of n d 0) ∙ sym (some_fraction n d)
+
+pub map-replicate : {A B : Type 0} (f : A → B) (n : ℕ) (x : A) → map f (replicate n x) ≡ replicate n (f x)
+map-replicate f zero x = refl
+map-replicate f (suc n) x = ap (λ t. f x ∷ t) (map-replicate f n x)

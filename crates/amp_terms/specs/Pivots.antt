@@ -2,7 +2,7 @@
 use Prim.Native.Nat.{ℕ}
 use mathlib.Core.Bool.{cond}
 use mathlib.Core.List.{List, [], ◌∷◌}
-use Rattle.std.specs.Prelude.{Option, Some, None}
+use Rattle.std.specs.Prelude.{Option, None}
 use Rattle.airy_math.specs.Rational.{ℚ}
 use Rattle.airy_math.specs.Keys.{Key, remove}
 use Rattle.airy_math.specs.Obtained.{both_obtained, obtained_sum}

@@ -6,7 +6,7 @@ use lib.ListN.{get_or, length}
 use mathlib.Core.List.{List, [], ◌∷◌, map}
 use Rattle.std.specs.Prelude.{Option, Some, None, IsSome}
 use Rattle.std.specs.Option.{unwrap_or}
-use Rattle.std.specs.Coded.{Coded, code_by, coded×, coded_ℕ, coded_option}
+use Rattle.std.specs.Coded.{Coded, code_by, coded×, coded_ℕ}
 use Rattle.airy_math.specs.Rational.{ℚ, rational_code}
 use Rattle.airy_math.specs.RationalLaws.{0ℚ}
 use Rattle.airy_math.specs.Tensors.{Tensors}

@@ -1,4 +1,4 @@
-ghost use Rattle.std.specs.Prelude.{◌≡◌, ◌↔◌, ℕ, ◌<◌, Some, None};
+ghost use Rattle.std.specs.Prelude.{◌≡◌, ◌↔◌, ℕ, ◌<◌, Some, None, IfSome, is_some};
 ghost use Rattle.airy_math.specs.Keys.{remove, times};
 ghost use Rattle.airy_math.specs.Obtained.{both_obtained, obtained_product, obtained_sum};
 ghost use Rattle.airy_math.specs.Planned.{IsPlanned};
@@ -6,7 +6,9 @@ ghost use Rattle.airy_math.specs.RationalLaws.{0ℚ};
 ghost use Rattle.airy_math.specs.Terms.{terms};
 ghost use Rattle.amp_plan.specs.Plans.{tensors_of, keys_of, rank_at};
 ghost use Rattle.amp_terms.specs.declared.Outcome.{Outcome};
-ghost use Rattle.amp_terms.specs.Outcomes.{outcome_from, ranks_named, smaller, value_or_zero};
+ghost use Rattle.amp_terms.specs.Outcomes.{has_value, outcome_from, ranks_named, smaller, value_or_zero};
+ghost use Rattle.amp_terms.specs.Tables.{value_of};
+ghost use Rattle.running_sum.specs.Numbers.{number_of};
 ghost use Rattle.amp_terms.specs.Pivots.{noted, pivot_outcome};
 ghost use Rattle.amp_plan.specs.Ranked.{AreAllowed, NameAllowed, all_ranked};
 
@@ -14,7 +16,7 @@ use crate::Outcome;
 use airy_index::Key;
 use amp_plan::{Plan, TermVisitor, walk_terms};
 use frac128::Frac;
-use running_sum::Unreduced;
+use running_sum::{Number, Unreduced};
 
 /// Outcomes of ranks that can be read.
 pub trait Seen {
@@ -33,6 +35,23 @@ pub trait Seen {
         ensures ranks { (r : ℕ) → has self.new r ↔ has self.old r }
         ensures same { shown self.new ≡ shown self.old }
         ensures base { made_over self.new ≡ made_over self.old };
+
+    /// The Value of a rank that it has as a factor, where it has one.
+    #[inline(always)]
+    #[tactic(auto, using(crate::proofs::TableLemmas::none_has, crate::proofs::TableLemmas::has_some))]
+    fn number(&mut self, rank: u32) -> Option<Number>
+        requires { has self.old rank }
+        ensures number { IfSome result (λ n. number_of n ≡ value_of (shown self.old rank)) }
+        ensures whether { is_some result ≡ has_value (shown self.old rank) }
+        ensures ranks { (r : ℕ) → has self.new r ↔ has self.old r }
+        ensures same { shown self.new ≡ shown self.old }
+        ensures base { made_over self.new ≡ made_over self.old }
+    {
+        match self.at(rank) {
+            Outcome::Value(v) => Some(Number::of(v)),
+            _ => None,
+        }
+    }
 }
 
 /// The outcome of the pivot sum of a planned key, for one of its indices, over the outcomes of the ranks that its terms
@@ -118,9 +137,9 @@ impl<'a, S: Seen> TermVisitor for PivotSum<'a, S> {
 impl<S: Seen> PivotSum<'_, S> {
     /// The Value at a rank, and 0 where it has none: then the rank is noted.
     #[inline(always)]
-    fn number(&mut self, rank: u32) -> Frac
+    fn number(&mut self, rank: u32) -> Number
         requires { S.has self.old.seen.now rank }
-        ensures number { result ≡ value_or_zero (S.shown self.old.seen.now rank) }
+        ensures number { number_of result ≡ Some (value_or_zero (S.shown self.old.seen.now rank)) }
         ensures noted { self.new.blocked ≡ noted self.old.blocked rank (S.shown self.old.seen.now rank) }
         ensures sum { self.new.sum ≡ self.old.sum }
         ensures same_reference { self.new.seen.ghost_name ≡ self.old.seen.ghost_name }
@@ -128,11 +147,11 @@ impl<S: Seen> PivotSum<'_, S> {
         ensures same { S.shown self.new.seen.now ≡ S.shown self.old.seen.now }
         ensures base { S.made_over self.new.seen.now ≡ S.made_over self.old.seen.now }
     {
-        match self.seen.at(rank) {
-            Outcome::Value(v) => v,
-            _ => {
+        match self.seen.number(rank) {
+            Some(number) => number,
+            None => {
                 self.blocked = less(self.blocked, rank);
-                Frac::whole(0)
+                Number::of(Frac::whole(0))
             }
         }
     }

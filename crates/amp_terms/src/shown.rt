@@ -1,6 +1,7 @@
 use crate::Outcome;
 use crate::pivot::Seen;
 use crate::table::Table;
+use running_sum::Number;
 
 /// The outcomes of a table, for the terms of a pivot sum: of each rank its own, and Over where it was never filled.
 #[derive(Drop)]
@@ -24,5 +25,10 @@ impl Seen for TableOutcomes<'_> {
     #[tactic(auto, unfolding(crate::specs::Tables::shown_in))]
     fn at(&mut self, rank: u32) -> Outcome {
         self.table.outcome(rank).unwrap_or(Outcome::Over)
+    }
+
+    #[inline(always)]
+    fn number(&mut self, rank: u32) -> Option<Number> {
+        self.table.number(rank)
     }
 }

@@ -1,8 +1,11 @@
-ghost use Rattle.std.specs.Prelude.{◌≡◌, ◌<◌, length, get_or, set, replicate, Some, None, IfOk, IfErr, IfSome};
+ghost use Rattle.std.specs.Prelude.{◌≡◌, ◌<◌, length, get_or, set, replicate, Some, None, IfOk, IfErr, IfSome, is_some};
+ghost use Rattle.running_sum.specs.Numbers.{number_of};
 ghost use Rattle.amp_terms.specs.Tables.{first_without, holds_value, value_at};
 
 use crate::Outcome;
+use crate::cell::Cell;
 use frac128::Frac;
+use running_sum::Number;
 use std::alloc::{AllocError, Global};
 use std::marker::Model;
 
@@ -12,20 +15,21 @@ pub type NoMemory = AllocError;
 /// What each rank has, where it was filled.
 #[derive(Drop)]
 pub struct Table {
-    cells: Vec<Option<Outcome>>,
+    cells: Vec<Cell>,
 }
 
 impl Model for Table {
-    ghost use Rattle.std.specs.Prelude.{List, Option, ◌<◌, ◌^◌, length};
+    ghost use Rattle.std.specs.Prelude.{List, Option, ◌<◌, ◌^◌, length, map};
     ghost use Rattle.std.specs.Coded.{coded_list, coded_option};
     ghost use Rattle.amp_terms.specs.declared.Outcome.{Outcome};
     ghost use Rattle.amp_terms.specs.Tables.{outcome_code};
+    ghost use Rattle.amp_terms.specs.Cells.{outcome_of};
 
     ghost Value = { List (Option Outcome) };
 
     ghost coded = { coded_list (coded_option outcome_code) };
 
-    ghost view = { λ t. t.cells.items };
+    ghost view = { λ t. map outcome_of t.cells.items };
 
     ghost invariant = { λ t. length t.cells.items < 2 ^ 32 };
 }
@@ -36,7 +40,7 @@ impl Table {
         ensures { IfOk result (λ t. t ≡ replicate len None) }
     {
         Ok(Table {
-            cells: vec![in alloc; None; len as usize]?,
+            cells: vec![in alloc; Cell::Unfilled; len as usize]?,
         })
     }
 
@@ -45,7 +49,7 @@ impl Table {
         requires { rank < length self.old }
         ensures { self.new ≡ set self.old rank (Some outcome) }
     {
-        self.cells[rank as usize] = Some(outcome);
+        self.cells[rank as usize] = Cell::of(outcome);
     }
 
     /// What a rank has, or None where it was never filled.
@@ -53,7 +57,7 @@ impl Table {
         requires { rank < length self.now }
         ensures { result ≡ get_or self.now rank None }
     {
-        self.cells[rank as usize]
+        self.cells[rank as usize].outcome()
     }
 
     /// The number of ranks.
@@ -69,10 +73,21 @@ impl Table {
         requires { rank < length self.now }
         ensures { result ≡ value_at self.now rank }
     {
-        match self.cells[rank as usize] {
+        match self.outcome(rank) {
             Some(outcome) => outcome.value(),
             None => None,
         }
+    }
+
+    /// The Value of a rank as a factor, or None where it has none.
+    #[inline(always)]
+    #[tactic(auto, unfolding(crate::specs::Tables::value_at))]
+    pub(crate) fn number(&self, rank: u32) -> Option<Number>
+        requires { rank < length self.now }
+        ensures number { IfSome result (λ n. number_of n ≡ value_at self.now rank) }
+        ensures whether { is_some result ≡ holds_value (get_or self.now rank None) }
+    {
+        self.cells[rank as usize].number()
     }
 
     /// The least rank without a Value.
@@ -80,18 +95,12 @@ impl Table {
         ensures value { result ≡ first_without self.now }
         ensures within { IfSome result (λ r. r < length self.now) }
     {
-        for (rank, cell) in self.cells.iter().enumerate() {
-            if !is_value(*cell) {
-                return Some(rank as u32);
+        for rank in 0..self.len() {
+            match self.number(rank) {
+                Some(_) => {}
+                None => return Some(rank),
             }
         }
         None
     }
-}
-
-/// Whether a cell was filled with a Value.
-fn is_value(cell: Option<Outcome>) -> bool
-    ensures { result ≡ holds_value cell }
-{
-    matches!(cell, Some(Outcome::Value(_)))
 }

@@ -1,24 +1,14 @@
 -- The first seat of a session's boards, whose receipts begin with the carried ranks.
 use Rattle.std.proofs.Common.{◌≡◌, ℕ, ◌<◌, ◌≤◌, List, [], ◌∷◌, ◌++◌, length, length-append, get_or, Option, arith, refl, sym, ap, ap₂, ◌∙◌, subst, append-nil}
-use Rattle.amp_plan.specs.Plans.{Planning, key_at}
-use Rattle.amp_terms.specs.declared.Outcome.{Outcome}
 use Rattle.cell_words.specs.Closings.{AreOf, receipt_at}
 use Rattle.cell_words.specs.Resuming.{AreBegun, AreNew, carried_in}
-use Rattle.cell_words.specs.Seats.{carried_of, standing_of}
 use Rattle.cell_words.specs.declared.view.Standing.{Standing}
-use Rattle.cell_words.specs.declared.closed.Closed.{Closed}
-use Rattle.cell_words.specs.declared.countdown.Countdown.{Countdown}
-use Rattle.cell_words.specs.declared.countdown.CountSeat.{CountSeat}
 use Rattle.fill_crew.specs.Crews.{BeginsWith, HasWorked, AreSwept}
 use Rattle.fill_crew.proofs.CrewLemmas.{begins_more, snoc-both}
-use Rattle.airy_math.specs.Levels.{euler_of}
-use Rattle.cell_words.specs.Layout.{cells, IsPartial}
 use Rattle.cell_words.proofs.ResumeLemmas.{nothing_carried}
-use Rattle.ask_seats.specs.Carrying.{Leads, LeavesFirst, CarriesSettled, KeepsCarried, plan_behind, anew, resumed}
-use Rattle.ask_seats.specs.Talks.{IsPart, Paused}
+use Rattle.ask_seats.proofs.Names.{Planning, key_at, Outcome, carried_of, standing_of, Closed, Countdown, CountSeat, euler_of, cells, IsPartial, Leads, LeavesFirst, KeepsCarried, IsPart, Paused, Line, Grow}
+use Rattle.ask_seats.specs.Carrying.{CarriesSettled, plan_behind, anew, resumed}
 use Rattle.ask_seats.proofs.SessionLemmas.{bound-last, finished-last}
-use Rattle.command_words.specs.declared.line.Line.{Line}
-use Rattle.command_words.specs.declared.line.Line.TheVariants.{Grow}
 
 -- the seats of a board that was resumed, and of a new one
 pub leads-begun : (b : Countdown) (carried : List ℕ) (n : ℕ) (ss : List CountSeat) → 0 < n → carried_of b ≡ carried → AreBegun b carried n ss → Leads (carried_of b) ss

@@ -1,3 +1,4 @@
+pub mod Names
 pub mod ReplyLemmas
 pub mod PlaceLemmas
 pub mod SpeakLemmas

@@ -1,39 +1,17 @@
 -- Replies line by line.
-use Rattle.std.proofs.Common.{◌≡◌, ◌⊎◌, inl, inr, ℕ, ◌<◌, ◌≤◌, List, [], ◌∷◌, ◌++◌, arith, refl, sym, ap, subst, ◌∙◌}
-use Rattle.airy_math.specs.Keys.{Key}
-use Rattle.airy_math.specs.Tensors.{Tensors}
-use Rattle.amp_plan.specs.Limits.{Limit, Within, PassesBound, PassesCells, PassesNeeds, limit}
-use Rattle.ask_seats.specs.Replies.{Reply, Value, Over, Blocked, NotYet, Zero, Beyond, BadIndex, GrownTo, ManyCells, ManyNeeds}
-use Rattle.ask_seats.specs.Sessions.{Stage, Replied, finish, behind, growth, grown, bound_after}
-use Rattle.ask_seats.specs.Asks.{Rises}
-use Rattle.command_words.specs.declared.line.Line.{Line}
-use Rattle.command_words.specs.declared.line.Line.TheVariants.{Ask, Finish, Grow}
+use Rattle.std.proofs.Common.{cond, true, false, ◌≡◌, ◌⊎◌, inl, inr, ℕ, ◌<◌, ◌≤◌, List, [], ◌∷◌, ◌++◌, arith, refl, sym, ap, subst, ◌∙◌}
+use Rattle.amp_plan.specs.Limits.{Limit, Within, PassesBound, PassesCells, PassesNeeds}
+use Rattle.ask_seats.proofs.Names.{AreAsks, Key, Tensors, limit, Reply, Stage, Replied, finish, behind, growth, grown, bound_after, Rises, Line, Ask, Finish, Grow}
+use Rattle.ask_seats.specs.Sessions.{gives}
+use Rattle.ask_seats.specs.Replies.{Value, Over, Blocked, NotYet, Zero, Beyond, BadIndex, GrownTo, ManyCells, ManyNeeds}
 
 pub behind-bound : (stage : Stage) (key : Key) (reply : Reply) → (behind stage key reply).bound ≡ stage.bound
 unfolding behind
-behind-bound stage key (Value v e) = refl
-behind-bound stage key Over = refl
-behind-bound stage key (Blocked other) = refl
-behind-bound stage key NotYet = refl
-behind-bound stage key Zero = refl
-behind-bound stage key Beyond = refl
-behind-bound stage key BadIndex = refl
-behind-bound stage key (GrownTo X) = refl
-behind-bound stage key (ManyCells e) = refl
-behind-bound stage key (ManyNeeds other) = refl
+behind-bound stage key reply = elim (gives reply) as (λ b. (cond b (record stage { given = key ∷ stage.given }) stage).bound ≡ stage.bound) [ true ↦ refl | false ↦ refl ]
 
 pub behind-finished : (stage : Stage) (key : Key) (reply : Reply) → (behind stage key reply).finished ≡ stage.finished
 unfolding behind
-behind-finished stage key (Value v e) = refl
-behind-finished stage key Over = refl
-behind-finished stage key (Blocked other) = refl
-behind-finished stage key NotYet = refl
-behind-finished stage key Zero = refl
-behind-finished stage key Beyond = refl
-behind-finished stage key BadIndex = refl
-behind-finished stage key (GrownTo X) = refl
-behind-finished stage key (ManyCells e) = refl
-behind-finished stage key (ManyNeeds other) = refl
+behind-finished stage key reply = elim (gives reply) as (λ b. (cond b (record stage { given = key ∷ stage.given }) stage).finished ≡ stage.finished) [ true ↦ refl | false ↦ refl ]
 
 -- the bound behind a `grow` is not below the one before, nor above the new one
 pub grows-up : (l : Limit) (X Y : ℕ) → X ≤ Y → (X ≤ bound_after l X Y) × (bound_after l X Y ≤ Y)
@@ -50,6 +28,14 @@ rises-lower X Y [] h r = tt
 rises-lower X Y (Ask key ∷ lines) h r = rises-lower X Y lines h r
 rises-lower X Y (Finish ∷ lines) h r = rises-lower X Y lines h r
 rises-lower X Y (Grow Z ∷ lines) h r = let l = r.0 in (omega (arith, h, l), r.1, r.2)
+
+-- lines that all ask have no bounds
+pub rises-asks : (X : ℕ) (lines : List Line) → AreAsks lines → Rises X lines
+unfolding AreAsks Rises
+rises-asks X [] a = tt
+rises-asks X (Ask key ∷ lines) a = rises-asks X lines a
+rises-asks X (Finish ∷ lines) a = absurd a
+rises-asks X (Grow Y ∷ lines) a = absurd a
 
 -- no `grow` goes above C
 unfoldable pub UpTo : ℕ → List Line → Type 0

@@ -1,27 +1,17 @@
 -- Seats of a countdown board before and behind some asks, and the table that the board leaves.
-use Rattle.std.proofs.Common.{◌≡◌, ◌⊎◌, inl, inr, ℕ, ◌<◌, Bool, true, false, List, [], ◌∷◌, ◌++◌, length, length-append, map, get_or, Option, None, Some, arith, refl, sym, ap, ◌∙◌, subst}
+use Rattle.std.proofs.Common.{◌≡◌, ◌⊎◌, inl, inr, ℕ, ◌<◌, Bool, true, false, List, [], ◌∷◌, ◌++◌, length, length-append, map, get_or, Option, None, Some, arith, refl, sym, ap, ◌∙◌, subst, is_some, cond}
 use Rattle.std.proofs.Math.ListN.{get_or-map}
 use Rattle.std.proofs.Math.Seq.{get_or-append_seam}
-use Rattle.std.proofs.lemmas.List.{length-map}
-use Rattle.std.specs.Option.{is_some}
-use Rattle.std.specs.Prelude.{cond}
-use Rattle.amp_plan.specs.Plans.{Planning, tensors_of}
+use Rattle.std.proofs.lemmas.List.{length-map, get_or_default}
 use Rattle.amp_terms.specs.Outcomes.{outcomes}
-use Rattle.amp_terms.specs.Tables.{full_table}
 use Rattle.amp_terms.specs.declared.Outcome.TheVariants.{Over}
 use Rattle.amp_terms.proofs.OutcomeLemmas.{length-all}
 use Rattle.cell_words.specs.Countdown.{Known}
-use Rattle.cell_words.proofs.DealLemmas.{same_default}
-use Rattle.ask_seats.specs.Talks.{Carried}
-use Rattle.amp_terms.specs.declared.Outcome.{Outcome}
-use Rattle.cell_words.specs.Deals.{AreAll, SomeKnows}
-use Rattle.cell_words.specs.Layout.{cells, outcome_at, IsPartial}
-use Rattle.cell_words.specs.Seats.{IsSeatOf, standing_of, view_of}
+use Rattle.cell_words.specs.Deals.{SomeKnows}
 use Rattle.cell_words.specs.declared.view.Standing.{Standing}
-use Rattle.cell_words.specs.declared.countdown.Countdown.{Countdown}
-use Rattle.cell_words.specs.declared.countdown.CountSeat.{CountSeat}
 use Rattle.fill_crew.specs.Crews.{IsBack}
 use Rattle.fill_crew.proofs.CrewLemmas.{last_idle, rejoined}
+use Rattle.ask_seats.proofs.Names.{Planning, tensors_of, full_table, Carried, Outcome, AreAll, cells, outcome_at, IsPartial, IsSeatOf, standing_of, view_of, Countdown, CountSeat}
 
 module _ (b : Countdown) (s t : CountSeat) (same : standing_of t ≡ standing_of s) where
   pub same_back : s.held ≡ None → IsSeatOf b t → IsBack b s t
@@ -65,7 +55,7 @@ unfolding full_table outcome_at
 full_at p t e r l =
     let os = outcomes (tensors_of p) p.bound in
     let many : length (map (λ o. Some o) os) ≡ cells p = length-map os (λ o. Some o) ∙ length-all p in
-    ap (λ u. get_or u r None) e ∙ same_default (map (λ o. Some o) os) r None (Some Over) (omega (arith, l, many)) ∙ get_or-map (λ o. Some o) os r Over
+    ap (λ u. get_or u r None) e ∙ get_or_default (map (λ o. Some o) os) r None (Some Over) (omega (arith, l, many)) ∙ get_or-map (λ o. Some o) os r Over
 
 -- it is one of a plan,
 pub full_partial : (p : Planning) (t : List (Option Outcome)) → t ≡ full_table (tensors_of p) p.bound → IsPartial p t

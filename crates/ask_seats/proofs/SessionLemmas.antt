@@ -1,30 +1,13 @@
 -- The parts of a session.
-use Rattle.std.proofs.Common.{◌≡◌, ◌⊎◌, inl, inr, ℕ, zero, suc, ◌<◌, ◌≤◌, ◌+◌, Bool, true, false, List, [], ◌∷◌, ◌++◌, take, drop, length, get_or, Option, Some, None, arith, refl, sym, ap, ap₂, ◌∙◌, subst, append-nil, append_assoc}
-use Rattle.std.proofs.lemmas.List.{take-append-drop, drop_more}
+use Rattle.std.proofs.Common.{◌≡◌, ◌⊎◌, inl, inr, ℕ, zero, suc, ◌<◌, ◌≤◌, ◌+◌, Bool, true, false, List, [], ◌∷◌, ◌++◌, take, drop, length, get_or, Option, Some, None, arith, refl, sym, ap, ap₂, ◌∙◌, subst, append-nil, append_assoc, take-append-drop, Result, Ok, Err, OnOk, OnErr}
 use Rattle.std.proofs.KnownBytes.{Appends-trans}
-use Rattle.std.specs.Prelude.{Result, Ok, Err, OnOk, OnErr}
-use Rattle.std.specs.Io.KnownBytes.{Appends}
-use Rattle.airy_io.specs.Causes.{AppendsPrefix, Taking}
 use Rattle.airy_io.proofs.Prefixes.{AppendsPrefix-more}
-use Rattle.airy_math.specs.Keys.{Key}
-use Rattle.airy_math.specs.Levels.{euler_of}
-use Rattle.airy_math.specs.Planned.{IsPlanned}
-use Rattle.airy_math.specs.Ranks as ranks
-use Rattle.airy_math.specs.Tensors.{Tensors}
-use Rattle.airy_math.specs.Terms.{StandsIn}
 use Rattle.airy_math.proofs.PlanOrderLaw.{levels}
-use Rattle.amp_plan.specs.Limits.{limit}
-use Rattle.amp_plan.specs.Plans.{Planning, tensors_of, keys_of, key_at}
-use Rattle.amp_terms.specs.declared.Outcome.{Outcome}
-use Rattle.cell_words.specs.Layout.{cells}
-use Rattle.ask_seats.specs.Replies.{Reply, line_text, lines_text}
-use Rattle.ask_seats.specs.Sessions.{Session, Stage, Replied, IsAdmitted, Admitted, IsOrRestsOn, start, behind, finish, growth, grown, bound_after, bound_behind, finished_behind}
-use Rattle.ask_seats.specs.Asks.{session_of, AreAsks, FinishesOnce, Rises, ends_finished, Spoken, CutShort, StopsAtGrow}
-use Rattle.ask_seats.specs.Talks.{IsPart, replies_due, IsGood, Stands, stage_after, Wrote, Broke, Speaks, FallsSilent, Carried, Paused, GoesOn, up_to}
-use Rattle.command_words.specs.declared.line.Line.{Line}
-use Rattle.command_words.specs.declared.line.Line.TheVariants.{Ask, Finish, Grow}
-use Rattle.ask_seats.proofs.ReplyLemmas.{behind-bound, behind-finished, grows-up, rises-lower}
-use Rattle.ask_seats.proofs.SpeakLemmas.{replied-append, after-append, text-append, complete, good-start, good-finish, good-grown, good-along, lower}
+use Rattle.ask_seats.proofs.Names.{drop_more, Appends, AppendsPrefix, Taking, Key, euler_of, IsPlanned, Tensors, StandsIn, limit, Planning, tensors_of, keys_of, key_at, Outcome, cells, Reply, line_text, lines_text, Session, Stage, Replied, IsAdmitted, Admitted, IsOrRestsOn, start, behind, finish, growth, grown, bound_after, bound_behind, finished_behind, session_of, AreAsks, FinishesOnce, Rises, ends_finished, Spoken, CutShort, IsPart, replies_due, IsGood, Stands, stage_after, Wrote, Broke, Speaks, FallsSilent, Carried, Paused, GoesOn, up_to, Line, Ask, Finish, Grow}
+use Rattle.ask_seats.specs.Asks.{StopsAtGrow}
+use Rattle.ask_seats.proofs.ReplyLemmas.{rises-asks, behind-bound, behind-finished, grows-up, rises-lower}
+use Rattle.ask_seats.proofs.SpeakLemmas.{stands-map, replied-append, after-append, text-append, complete, good-start, good-finish, good-grown, good-along, lower}
+use Rattle.airy_math.specs.Ranks as ranks
 
 -- ---- lines of a part
 
@@ -68,18 +51,11 @@ ends-asks done (Grow X ∷ lines) a = absurd a
 pub split-lines : (lines : List Line) (at : ℕ) (d : Line) → at < length lines → get_or lines at d ≡ Finish → take at lines ++ (Finish ∷ drop (at + 1) lines) ≡ lines
 split-lines lines at d h is = ap (λ x. take at lines ++ (x ∷ drop (at + 1) lines)) (sym is) ∙ ap (λ l. take at lines ++ l) (sym (drop_more lines at d h)) ∙ take-append-drop at lines
 
-pub asks-part : (X : ℕ) (lines : List Line) → AreAsks lines → Rises X lines
-unfolding AreAsks Rises
-asks-part X [] a = tt
-asks-part X (Ask key ∷ lines) a = asks-part X lines a
-asks-part X (Finish ∷ lines) a = absurd a
-asks-part X (Grow Y ∷ lines) a = absurd a
-
 pub part-rises : (X : ℕ) (lines : List Line) → IsPart lines → Rises X lines
 unfolding IsPart Rises
 part-rises X [] a = tt
 part-rises X (Ask key ∷ lines) a = part-rises X lines a
-part-rises X (Finish ∷ lines) a = asks-part X lines a
+part-rises X (Finish ∷ lines) a = rises-asks X lines a
 part-rises X (Grow Y ∷ lines) a = absurd a
 
 -- ---- where parts end
@@ -199,15 +175,6 @@ stands-first p crew Knows = record {
   where
     nothing : (X : ℕ) → None ≡ Some X → ⊥
     nothing X e = cc
-
-pub stands-map : (p : Planning) (crew : ℕ) (Knew Knows : ℕ → Type 0) (st : Stage) → ((r : ℕ) → r < cells p → Knew r → Knows r) → Stands p crew Knew st → Stands p crew Knows st
-stands-map p crew Knew Knows st k h = record {
-  bound = h.bound;
-  planned = h.planned;
-  given = λ other r i low e. k r low (h.given other r i low e);
-  settled = λ X r e low w. k r low (h.settled X r e low w);
-  good = h.good;
-}
 
 -- where every rank is known, the stage behind a `finish`
 pub stands-finish : (p : Planning) (crew : ℕ) (Knew Knows : ℕ → Type 0) (st : Stage) → ((r : ℕ) → r < cells p → Knows r) → Stands p crew Knew st → Stands p crew Knows (finish st)
@@ -477,11 +444,3 @@ ok_of (Err y) x e h = cc
 pub err_of : {T E P : Type 0} (r : Result T E) (x : E) → r ≡ Err x → OnErr r P → P
 err_of (Ok y) x e h = cc
 err_of (Err y) x e h = h
-
-pub ok_map : {T E P Q : Type 0} (r : Result T E) → (P → Q) → OnOk r P → OnOk r Q
-ok_map (Ok y) f h = f h
-ok_map (Err y) f h = tt
-
-pub err_map : {T E P Q : Type 0} (r : Result T E) → (P → Q) → OnErr r P → OnErr r Q
-err_map (Ok y) f h = tt
-err_map (Err y) f h = f h

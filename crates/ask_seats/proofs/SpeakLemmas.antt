@@ -1,37 +1,21 @@
 -- What a session says is admitted.
-use Rattle.std.proofs.Common.{true≢false, ◌≡◌, ◌≢◌, ◌⊎◌, inl, inr, ℕ, ◌<◌, ◌≤◌, Bool, true, false, List, [], ◌∷◌, ◌++◌, Option, Some, None, arith, refl, sym, ap, ◌∙◌, subst, append_assoc}
-use Rattle.std.proofs.lemmas.Bool.{cases_lt, and_parts, ltb-true, ltb-false, lt-ltb, le-ltb}
-use Rattle.std.specs.Prelude.{cond, ◌&&◌, nat_eq, IsTrue}
-use lib.Dec.{ltb}
+use Rattle.std.proofs.Common.{true≢false, ◌≡◌, ◌≢◌, ◌⊎◌, inl, inr, ℕ, ◌<◌, ◌≤◌, Bool, true, false, List, [], ◌∷◌, ◌++◌, Option, Some, None, arith, refl, sym, ap, ◌∙◌, subst, append_assoc, ltb-true, ltb-false, lt-ltb, le-ltb, cond, ◌&&◌, nat_eq, IsTrue, ltb}
+use Rattle.std.proofs.lemmas.Bool.{cases_lt, and_parts}
 use lib.ListN.{get_or}
-use Rattle.airy_math.specs.Keys.{Key}
-use Rattle.airy_math.specs.Levels.{euler_of}
 use Rattle.airy_math.specs.Shapes.{covers}
-use Rattle.airy_math.specs.Tensors.{Tensors}
-use Rattle.airy_math.specs.Planned.{planned, IsPlanned}
+use Rattle.airy_math.specs.Planned.{planned}
 use Rattle.airy_math.proofs.NeedsLaw.{needs_first}
-use Rattle.amp_plan.specs.Limits.{limit}
-use Rattle.airy_math.specs.Ranks.{ListsPlanned, place_of}
-use Rattle.airy_math.specs.Terms.{StandsIn, RestsOn}
-use Rattle.airy_index.specs.Fields.{IsKey}
-use Rattle.amp_plan.specs.Plans.{Planning, tensors_of, keys_of, key_at}
-use Rattle.amp_plan.specs.Places.{place_in, are_below}
-use Rattle.amp_plan.specs.declared.place.Place.{Place}
-use Rattle.amp_plan.specs.declared.place.Place.TheVariants as place
-use Rattle.amp_terms.specs.declared.Outcome.{Outcome}
-use Rattle.amp_terms.specs.declared.Outcome.TheVariants as outcome
+use Rattle.airy_math.specs.Terms.{RestsOn}
+use Rattle.amp_plan.specs.Places.{are_below}
 use Rattle.amp_terms.specs.Outcomes.{outcomes}
-use Rattle.cell_words.specs.Layout.{cells}
-use Rattle.cell_words.specs.Looks.{Reaches}
-use Rattle.ask_seats.specs.Replies.{Reply, Value, Over, Blocked, NotYet, Zero, Beyond, BadIndex, GrownTo, ManyCells, ManyNeeds, line_text, lines_text}
-use Rattle.ask_seats.specs.Sessions.{Session, Stage, Replied, IsAdmitted, IsOrRestsOn, start, finish, growth, grown, bound_after, behind, told, told_at, outcome_reply, place_at, is_rank, is_open, is_unsettled}
-use Rattle.ask_seats.specs.Asks.{session_of, Rises}
-use Rattle.ask_seats.specs.Talks.{told_of, holds_back, Hears, tells, misses, waits, IsGood, Stands, stage_after}
-use Rattle.command_words.specs.declared.line.Line.{Line}
-use Rattle.command_words.specs.declared.line.Line.TheVariants.{Ask, Finish, Grow}
 use Rattle.amp_plan.proofs.PlaceLemmas.{at_rank, rank_within, key_of_rank}
+use Rattle.ask_seats.proofs.Names.{Key, euler_of, Tensors, IsPlanned, limit, ListsPlanned, place_of, StandsIn, IsKey, Planning, tensors_of, keys_of, key_at, place_in, Place, Outcome, cells, Reaches, Reply, line_text, lines_text, Session, Stage, Replied, IsAdmitted, IsOrRestsOn, start, finish, growth, grown, bound_after, behind, told, told_at, outcome_reply, place_at, is_rank, is_open, is_unsettled, session_of, Rises, told_of, holds_back, Hears, IsGood, Stands, stage_after, Line, Ask, Finish, Grow}
+use Rattle.ask_seats.specs.Replies.{Value, Over, Blocked, NotYet, Zero, Beyond, BadIndex, GrownTo, ManyCells, ManyNeeds}
+use Rattle.ask_seats.specs.Talks.{tells, misses, waits}
 use Rattle.ask_seats.proofs.PlaceLemmas.{same_place}
 use Rattle.ask_seats.proofs.ReplyLemmas.{behind-bound, grows-up, rises-lower}
+use Rattle.amp_plan.specs.declared.place.Place.TheVariants as place
+use Rattle.amp_terms.specs.declared.Outcome.TheVariants as outcome
 
 -- ---- lists of replies
 
@@ -64,15 +48,7 @@ text-append (r ∷ rs) qs = ap (λ l. line_text r ++ l) (text-append rs qs) ∙ 
 
 is_told : Reply → Bool
 is_told NotYet = false
-is_told (Value v e) = true
-is_told Over = true
-is_told (Blocked key) = true
-is_told Zero = true
-is_told Beyond = true
-is_told BadIndex = true
-is_told (GrownTo X) = true
-is_told (ManyCells e) = true
-is_told (ManyNeeds key) = true
+is_told _ = true
 
 not_not_yet : (r : Reply) → is_told r ≡ true → r ≡ NotYet → ⊥
 unfolding is_told
@@ -172,17 +148,11 @@ good-more s st key g within quiet = record {
     shut none other (inl e) = ap (λ k. is_open st.finished (euler_of k)) e ∙ quiet none
     shut none other (inr i) = g.quiet none other i
 
-module _ (p : Planning) (crew : ℕ) (finished : Option ℕ) (lists : ListsPlanned (tensors_of p) p.bound) where
-  -- what a seat stands for it stands for when it knows more
-  more : (Knew Knows : ℕ → Type 0) (st : Stage) → Stands p crew Knew st → ((r : ℕ) → Knew r → Knows r) → Stands p crew Knows st
-  more Knew Knows st h k = record {
-    bound = h.bound;
-    planned = h.planned;
-    given = λ other r i low e. k r (h.given other r i low e);
-    settled = λ X r e low w. k r (h.settled X r e low w);
-    good = h.good;
-  }
+-- what a seat stands for it stands for when it knows more
+pub stands-map : (p : Planning) (crew : ℕ) (Knew Knows : ℕ → Type 0) (st : Stage) → ((r : ℕ) → r < cells p → Knew r → Knows r) → Stands p crew Knew st → Stands p crew Knows st
+stands-map p crew Knew Knows st k h = record { bound = h.bound; planned = h.planned; given = λ other r i low e. k r low (h.given other r i low e); settled = λ X r e low w. k r low (h.settled X r e low w); good = h.good }
 
+module _ (p : Planning) (crew : ℕ) (finished : Option ℕ) (lists : ListsPlanned (tensors_of p) p.bound) where
   rank_planned : (r : ℕ) → r < cells p → IsPlanned (tensors_of p) p.bound (key_at p r)
   unfolding keys_of key_at
   rank_planned r low = lists.only r low
@@ -232,9 +202,9 @@ module _ (p : Planning) (crew : ℕ) (finished : Option ℕ) (lists : ListsPlann
   next Knew Knows key st (place.At r) e is h f k known lone =
       one_more Knew Knows st key r h k (key_of_rank p key r lists is e) (rank_within p key r lists is e) (λ q low reach. known r q e low reach)
       (λ none. ap (λ o. is_open o (euler_of key)) f ∙ quiet key r e lone none)
-  next Knew Knows key st place.Zero e is h f k known lone = more Knew Knows st h k
-  next Knew Knows key st place.Beyond e is h f k known lone = more Knew Knows st h k
-  next Knew Knows key st place.BadIndex e is h f k known lone = more Knew Knows st h k
+  next Knew Knows key st place.Zero e is h f k known lone = stands-map p crew Knew Knows st (λ r _. k r) h
+  next Knew Knows key st place.Beyond e is h f k known lone = stands-map p crew Knew Knows st (λ r _. k r) h
+  next Knew Knows key st place.BadIndex e is h f k known lone = stands-map p crew Knew Knows st (λ r _. k r) h
 
   -- what is not known is not settled
   still_open : (Knew : ℕ → Type 0) (key : Key) (st : Stage) (r : ℕ) (o : Option ℕ) → st.finished ≡ o → Stands p crew Knew st → key_at p r ≡ key → r < cells p → (Knew r → ⊥) → is_open o (euler_of key) ≡ true
@@ -280,7 +250,7 @@ module _ (p : Planning) (crew : ℕ) (finished : Option ℕ) (lists : ListsPlann
           kept = λ n other is_planned i reach. unknown (h.given other r i low (subst (λ k. (other ≡ k) ⊎ RestsOn (tensors_of p) other k) (sym here) reach));
           alone = λ none u. e;
         },
-        subst (λ r. Stands p crew Knows (behind st key r)) (sym e) (more Knew Knows st h k),
+        subst (λ r. Stands p crew Knows (behind st key r)) (sym e) (stands-map p crew Knew Knows st (λ r _. k r) h),
       )
   hear-admitted Knew Knows key reply st is h f k (waits e r at back) =
       let free = ap (λ o. is_open o (euler_of key)) f ∙ (and_parts (nat_eq crew 0) (is_open finished (euler_of key)) back).1 in (
@@ -289,7 +259,7 @@ module _ (p : Planning) (crew : ℕ) (finished : Option ℕ) (lists : ListsPlann
           kept = λ n other is_planned i reach. not_quiet (session_of p crew) st key h.good (held_none crew finished (euler_of key) back) free other is_planned i reach;
           alone = λ none u. e;
         },
-        subst (λ r. Stands p crew Knows (behind st key r)) (sym e) (more Knew Knows st h k),
+        subst (λ r. Stands p crew Knows (behind st key r)) (sym e) (stands-map p crew Knew Knows st (λ r _. k r) h),
       )
 
 -- ---- whatever comes next

@@ -1,22 +1,9 @@
 -- The lines of a session, one reply after another.
-use Rattle.std.proofs.Common.{◌≡◌, ℕ, zero, suc, ◌<◌, ◌≤◌, ◌+◌, Bool, List, [], ◌∷◌, ◌++◌, take, drop, length, get_or, Option, Some, None, arith, refl, sym, ap, ◌∙◌, subst, append-nil}
-use Rattle.std.proofs.lemmas.List.{take-append-drop, drop_more}
+use Rattle.std.proofs.Common.{◌≡◌, ℕ, zero, suc, ◌<◌, ◌≤◌, ◌+◌, Bool, List, [], ◌∷◌, ◌++◌, take, drop, length, get_or, Option, Some, None, arith, refl, sym, ap, ◌∙◌, subst, append-nil, take-append-drop}
 use Rattle.std.proofs.KnownBytes.{Appends-trans}
-use Rattle.std.specs.Io.KnownBytes.{Appends}
-use Rattle.airy_io.specs.Causes.{AppendsPrefix}
 use Rattle.airy_io.proofs.Prefixes.{AppendsPrefix-more}
-use Rattle.airy_math.specs.Keys.{Key}
-use Rattle.airy_math.specs.Ranks.{ListsPlanned}
-use Rattle.airy_math.specs.Tensors.{Tensors}
-use Rattle.airy_index.specs.Fields.{IsKey}
-use Rattle.amp_plan.specs.Plans.{Planning, tensors_of}
-use Rattle.ask_seats.specs.Replies.{Reply, line_text, lines_text}
-use Rattle.ask_seats.specs.Sessions.{Stage, Replied, IsAdmitted, behind, finish}
-use Rattle.ask_seats.specs.Asks.{session_of, AreAsks, Rises}
-use Rattle.ask_seats.specs.Talks.{Hears, Stands, stage_after, Wrote, Broke}
-use Rattle.command_words.specs.declared.line.Line.{Line}
-use Rattle.command_words.specs.declared.line.Line.TheVariants.{Ask, Finish, Grow}
-use Rattle.ask_seats.proofs.ReplyLemmas.{behind-finished}
+use Rattle.ask_seats.proofs.Names.{drop_more, Appends, AppendsPrefix, Key, ListsPlanned, Tensors, IsKey, Planning, tensors_of, Reply, line_text, lines_text, Stage, Replied, IsAdmitted, behind, finish, session_of, AreAsks, Rises, Hears, Stands, stage_after, Wrote, Broke, Line, Ask, Finish, Grow}
+use Rattle.ask_seats.proofs.ReplyLemmas.{behind-finished, rises-asks}
 use Rattle.ask_seats.proofs.SpeakLemmas.{replied-append, after-append, text-append, hear-admitted, complete}
 
 -- no line is a `finish`
@@ -57,14 +44,6 @@ after-asks T st (Ask key ∷ lines) (reply ∷ replies) a = after-asks T (behind
 after-asks T st (Finish ∷ lines) replies a = absurd a
 after-asks T st (Grow X ∷ lines) replies a = absurd a
 
--- the lines that ask have bounds that rise, as there are none
-pub asks-rise : (X : ℕ) (lines : List Line) → AreAsks lines → Rises X lines
-unfolding AreAsks Rises
-asks-rise X [] a = tt
-asks-rise X (Ask key ∷ lines) a = asks-rise X lines a
-asks-rise X (Finish ∷ lines) a = absurd a
-asks-rise X (Grow Y ∷ lines) a = absurd a
-
 pub asks-behind : (lines : List Line) (i : ℕ) → AreAsks lines → AreAsks (drop i lines)
 unfolding AreAsks
 asks-behind lines zero a = a
@@ -72,14 +51,6 @@ asks-behind [] (suc i) a = tt
 asks-behind (Ask key ∷ lines) (suc i) a = asks-behind lines i a
 asks-behind (Finish ∷ lines) (suc i) a = absurd a
 asks-behind (Grow Y ∷ lines) (suc i) a = absurd a
-
-pub asks-before : (lines : List Line) (i : ℕ) → AreAsks lines → AreAsks (take i lines)
-unfolding AreAsks
-asks-before lines zero a = tt
-asks-before [] (suc i) a = tt
-asks-before (Ask key ∷ lines) (suc i) a = asks-before lines i a
-asks-before (Finish ∷ lines) (suc i) a = absurd a
-asks-before (Grow Y ∷ lines) (suc i) a = absurd a
 
 module _ (p : Planning) (crew : ℕ) (finished : Option ℕ) (lists : ListsPlanned (tensors_of p) p.bound) where
   pub starts : (Knows : ℕ → Type 0) (st : Stage) (old : Option (List ℕ)) → Appends old old [] → Stands p crew Knows st → st.finished ≡ finished → Wrote p crew finished Knows st [] old old
@@ -116,7 +87,7 @@ module _ (p : Planning) (crew : ℕ) (finished : Option ℕ) (lists : ListsPlann
       let T = tensors_of p in
       let one = said-one Knew Knows (stage_after T st done w.replies) line (AppendsPrefix mid new) k w.stands w.finish l in
       let behind_one = stage_after T (stage_after T st done w.replies) (line ∷ []) (l.reply ∷ []) in
-      let more = complete (session_of p crew) behind_one rest one.1.good (asks-rise behind_one.bound rest asks) in record {
+      let more = complete (session_of p crew) behind_one rest one.1.good (rises-asks behind_one.bound rest asks) in record {
         replies = w.replies ++ (l.reply ∷ more.0);
         admitted = replied-append T (IsAdmitted (session_of p crew)) st done (line ∷ rest) w.replies (l.reply ∷ more.0) w.admitted (replied-append T (IsAdmitted (session_of p crew)) (stage_after T st done w.replies) (line ∷ []) rest (l.reply ∷ []) more.0 one.0 more.1);
         cut = subst (AppendsPrefix old new) (sym (text-append w.replies (l.reply ∷ more.0))) (AppendsPrefix-more old mid new (lines_text w.replies) (line_text l.reply) (lines_text more.0) w.appended l.written);

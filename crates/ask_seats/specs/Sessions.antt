@@ -6,7 +6,7 @@ use mathlib.Core.List.{List, [], ◌∷◌}
 use mathlib.Core.Logic.{◌⊎◌}
 use lib.Dec.{ltb}
 use lib.ListN.{get_or}
-use Rattle.std.specs.Prelude.{IsTrue, Option, Some, None}
+use Rattle.std.specs.Prelude.{IsTrue, Option, Some, None, if◌then◌else◌}
 use Rattle.airy_math.specs.Keys.{Key}
 use Rattle.airy_math.specs.Cuts.{letter_of}
 use Rattle.airy_math.specs.Shapes.{covers}
@@ -133,18 +133,16 @@ pub record IsAdmitted (s : Session) (stage : Stage) (key : Key) (reply : Reply) 
   -- without workers nothing is filled but by a `finish`
   pub alone : s.crew ≡ 0 → IsTrue (is_unsettled s stage key) → reply ≡ NotYet
 
+-- whether a reply gives an outcome
+abbrev pub gives : Reply → Bool
+gives (Value v e) = true
+gives Over = true
+gives (Blocked other) = true
+gives _ = false
+
 -- behind a reply: the key is given where the reply gave its outcome
 unfoldable pub behind : Stage → Key → Reply → Stage
-behind stage key (Value v e) = record stage { given = key ∷ stage.given }
-behind stage key Over = record stage { given = key ∷ stage.given }
-behind stage key (Blocked other) = record stage { given = key ∷ stage.given }
-behind stage key NotYet = stage
-behind stage key Zero = stage
-behind stage key Beyond = stage
-behind stage key BadIndex = stage
-behind stage key (GrownTo X) = stage
-behind stage key (ManyCells e) = stage
-behind stage key (ManyNeeds other) = stage
+behind stage key reply = if gives reply then record stage { given = key ∷ stage.given } else stage
 
 -- ---- a session
 

@@ -1,6 +1,5 @@
 -- The tensors of a number: symmetric and graded, and which change is refused.
-use Rattle.std.proofs.Common.{◌≡◌, ℕ, zero, suc, ◌+◌, ◌-◌, ◌<◌, ◌≤◌, ◌⊎◌, inl, inr, Bool, true, false, ◌&&◌, cond, eqb, refl, sym, ap, ap₂, subst, ◌∙◌, arith, ℤ}
-use Rattle.std.specs.Prelude.{Some, None, Result, Ok, Err}
+use Rattle.std.proofs.Common.{◌≡◌, ℕ, zero, suc, ◌+◌, ◌-◌, ◌<◌, ◌≤◌, ◌⊎◌, inl, inr, Bool, true, false, ◌&&◌, cond, eqb, refl, sym, ap, ap₂, subst, ◌∙◌, arith, ℤ, Some, None, Result, Ok, Err}
 use Rattle.std.proofs.lemmas.Bool.{cases_lt}
 use Rattle.airy_math.specs.Rational.{ℚ, ◌+ℚ◌, ◌*ℚ◌}
 use Rattle.airy_math.specs.RationalLaws.{ring_q}
@@ -16,6 +15,7 @@ use Rattle.bulk_tensors.specs.Bulk.{on_diagonal, diagonal, factor, after, bulk, 
 use Rattle.bulk_tensors.specs.declared.full_tensors.BulkErr.{BulkErr}
 use Rattle.bulk_tensors.specs.declared.full_tensors.BulkErr.TheVariants.{Over}
 use Rattle.bulk_tensors.proofs.ChangeLemmas.{gains_same, gains_obtained_same}
+use Rattle.airy_math.proofs.SameNumbers.{same_trans}
 
 -- ---- symmetric
 
@@ -102,19 +102,6 @@ unfolding bulk IsSound
 bulk_sound seed dim = (after_symmetric seed dim (dim - 1), all_graded (after seed dim (dim - 1)) (after_shape seed dim (dim - 1)))
 
 -- ---- one change more
-
-pub same_trans : (T U V : Tensors) → SameEntries T U → SameEntries U V → SameEntries T V
-same_trans T U V g h = record {
-  dim = g.dim ∙ h.dim;
-  shape = g.shape ∙ h.shape;
-  A = λ i j k p q r. g.A i j k p q r ∙ h.A i j k (below i p) (below j q) (below k r);
-  B = λ i j k p q r. g.B i j k p q r ∙ h.B i j k (below i p) (below j q) (below k r);
-  C = λ i j k p q r. g.C i j k p q r ∙ h.C i j k (below i p) (below j q) (below k r);
-  D = λ i p. g.D i p ∙ h.D i (below i p);
-}
-  where
-    below : (n : ℕ) → n < T.dim → n < U.dim
-    below n p = subst (λ d. n < d) g.dim p
 
 -- T stands for the tensors before the change, T' for those that it makes of T
 pub after_next : (seed dim r : ℕ) (t : ℚ) (T T' : Tensors) → r + 1 < T.dim → t ≡ factor seed dim r → SameEntries T (after seed dim r) → SameEntries T' (changed r (r + 1) t T) → SameEntries T' (after seed dim (r + 1))

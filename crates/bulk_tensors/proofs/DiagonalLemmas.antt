@@ -1,9 +1,8 @@
 -- The diagonal tensors, set index by index.
-use Rattle.std.proofs.Common.{◌≡◌, ℕ, ◌+◌, ◌*◌, ◌%◌, ◌<◌, ◌≤◌, ◌⊎◌, inl, inr, Bool, true, false, ◌&&◌, eqb, ltb, List, get_or, length, replicate, refl, sym, ap, subst, ◌∙◌, arith, pos}
-use Rattle.std.specs.Prelude.{set}
+use Rattle.std.proofs.Common.{◌≡◌, ℕ, ◌+◌, ◌*◌, ◌%◌, ◌<◌, ◌≤◌, ◌⊎◌, inl, inr, Bool, true, false, ◌&&◌, eqb, ltb, List, get_or, length, replicate, refl, sym, ap, subst, ◌∙◌, arith, pos, set, length-set, get_or-set_same, get_or-set_other}
 use Rattle.std.proofs.lemmas.Bool.{cases_eq}
 use Rattle.std.proofs.lemmas.Bool.Decides.{nat_tests}
-use Rattle.std.proofs.lemmas.List.{length-set, length-replicate, get_or-replicate, get_or-set_same, get_or-set_other}
+use Rattle.std.proofs.lemmas.List.{length-replicate, get_or-replicate}
 use Rattle.airy_math.specs.Rational.{ℚ, whole, ◌/ℚ◌}
 use Rattle.airy_math.specs.RationalLaws.{0ℚ}
 use Rattle.airy_math.specs.Sums.{when}
@@ -12,7 +11,8 @@ use Rattle.bulk_tensors.specs.Bulk.{on_diagonal, diagonal}
 use Rattle.bulk_tensors.specs.Draws.{draw}
 use Rattle.bulk_tensors.specs.Full.{Lists, entry, listed, zero_lists, with_diagonal}
 use Rattle.bulk_tensors.proofs.FullLemmas.{entry-set_same, entry-set_other}
-use Rattle.bulk_tensors.proofs.FilledLemmas.{when_true, when_false, before_more, is_before}
+use Rattle.bulk_tensors.proofs.FilledLemmas.{before_more, is_before}
+use Rattle.airy_math.proofs.SumLemmas.{when_true, when_false}
 
 -- the list has f on the diagonal before n, and 0 elsewhere
 pub record IsDiagonal (n : ℕ) (f : ℕ → ℚ) (l : List ℚ) : Type 0 where

@@ -1,6 +1,5 @@
 -- The entries of full tensors, put place by place.
-use Rattle.std.proofs.Common.{◌≡◌, ℕ, ◌+◌, ◌*◌, ◌/◌, ◌%◌, ◌<◌, ◌≤◌, ◌⊎◌, inl, inr, Bool, true, false, cond, eqb, ltb, leb, List, get_or, refl, sym, ap, ap₂, subst, ◌∙◌, arith}
-use Rattle.std.specs.Prelude.{min, max}
+use Rattle.std.proofs.Common.{◌≡◌, ℕ, ◌+◌, ◌*◌, ◌/◌, ◌%◌, ◌<◌, ◌≤◌, ◌⊎◌, inl, inr, Bool, true, false, cond, eqb, ltb, leb, List, get_or, refl, sym, ap, ap₂, subst, ◌∙◌, arith, min, max}
 use Rattle.std.proofs.lemmas.Bool.{cases_eq, cases_lt}
 use Rattle.std.proofs.lemmas.Bool.Decides.{nat_tests}
 use Rattle.airy_math.specs.Rational.{ℚ}
@@ -10,12 +9,13 @@ use Rattle.airy_math.specs.declared.Shape.TheVariants.{All}
 use Rattle.airy_math.specs.Tensors.{Tensors, SameEntries, IsSymmetric, is_zero}
 use Rattle.airy_math.proofs.PivotLemmas.{zero_number}
 use Rattle.sparse_tensor.specs.Entries.{Entry, Entries, no_entries, looked_up, same_place, value_at, with_entry, value_of, with_value, is_given}
-use Rattle.sparse_tensor.specs.Grades.{AreEntries, AreStored, keeps_a, keeps_b, keeps_c, keeps_d}
-use Rattle.sparse_tensor.specs.Puts.{with_a, with_b, with_c, with_d}
-use Rattle.sparse_tensor.proofs.EntryLemmas.{value_at-with_entry, value_of-with_value}
-use Rattle.sparse_tensor.proofs.PutFacts.{free_from_zero, not_given_from_zero}
+use Rattle.sparse_tensor.specs.Grades.{AreEntries, AreStored, keeps, keeps_a, keeps_b, keeps_c, keeps_d}
+use Rattle.sparse_tensor.specs.Puts.{IsAllowed, putting_a, putting_b, putting_c, putting_d, with_a, with_b, with_c, with_d}
+use Rattle.sparse_tensor.proofs.PutFacts.{allowed_a, allowed_b, allowed_c, allowed_d}
+use Rattle.sparse_tensor.proofs.EntryLemmas.{value_at-with_entry, value_of-with_value, free_from_zero, not_given_from_zero}
 use Rattle.bulk_tensors.specs.Full.{Lists, entry, listed}
 use Rattle.bulk_tensors.specs.Filled.{Filled, ordered, AreFilled}
+use Rattle.airy_math.proofs.SumLemmas.{when_true, when_false}
 
 -- ---- one entry more in a list
 
@@ -58,16 +58,6 @@ stored_else grade dim es i j k v a b c h zero other = by (is_zero v)
     by false = value_at-with_entry x es a b c (free_from_zero grade dim es i j k h zero) ∙ cond_else (same_place a b c x) v (value_at es a b c) elsewhere
 
 -- ---- a place further
-
-pub when_true : (b : Bool) (x : ℚ) → b ≡ true → when b x ≡ x
-unfolding when
-when_true true x h = refl
-when_true false x h = cc
-
-pub when_false : (b : Bool) (x : ℚ) → b ≡ false → when b x ≡ 0ℚ
-unfolding when
-when_false true x h = cc
-when_false false x h = refl
 
 pub before_more : (n p : ℕ) → (n ≡ p → ⊥) → ltb n p ≡ ltb n (p + 1)
 before_more n p h = grind (arith, nat_tests)
@@ -121,41 +111,28 @@ filled_skip dim p F es none h = λ a b c s t u. h a b c s t u ∙ by a b c s t u
 
 -- ---- one put
 
+cond_under : {A B : Type 0} (f : A → B) (z : Bool) (x y : A) → cond z (f x) (f y) ≡ f (cond z x y)
+cond_under f true x y = refl
+cond_under f false x y = refl
+
 b_only : (t : Entries) (i j k : ℕ) (v : ℚ) → with_b t i j k v ≡ record t { b = stored t.b i j k v }
 unfolding with_b
-b_only t i j k v = by (is_zero v)
-  where
-    by : (z : Bool) → cond z t (record t { b = with_entry (record { i = i; j = j; k = k; v = v }) t.b }) ≡ record t { b = cond z t.b (with_entry (record { i = i; j = j; k = k; v = v }) t.b) }
-    by true = refl
-    by false = refl
+b_only t i j k v = cond_under (λ (es : List Entry). record t { b = es }) (is_zero v) t.b (with_entry (record { i = i; j = j; k = k; v = v }) t.b)
+
+least_most : (j k : ℕ) → j ≤ k → (min j k ≡ j) × (max j k ≡ k)
+least_most j k h = (omega arith, omega arith)
 
 a_only : (t : Entries) (i j k : ℕ) (v : ℚ) → j ≤ k → with_a t i j k v ≡ record t { a = stored t.a i j k v }
 unfolding with_a
-a_only t i j k v h = by (is_zero v) ∙ ap₂ (λ m n. record t { a = stored t.a i m n v }) least most
-  where
-    least : min j k ≡ j
-    least = omega arith
-
-    most : max j k ≡ k
-    most = omega arith
-
-    by : (z : Bool) → cond z t (record t { a = with_entry (record { i = i; j = min j k; k = max j k; v = v }) t.a }) ≡ record t { a = cond z t.a (with_entry (record { i = i; j = min j k; k = max j k; v = v }) t.a) }
-    by true = refl
-    by false = refl
+a_only t i j k v h =
+    let e = least_most j k h in
+    rw (e.0, e.1) (cond_under (λ (es : List Entry). record t { a = es }) (is_zero v) t.a (with_entry (record { i = i; j = j; k = k; v = v }) t.a))
 
 c_only : (t : Entries) (i j k : ℕ) (v : ℚ) → j ≤ k → with_c t i j k v ≡ record t { c = stored t.c i j k v }
 unfolding with_c
-c_only t i j k v h = by (is_zero v) ∙ ap₂ (λ m n. record t { c = stored t.c i m n v }) least most
-  where
-    least : min j k ≡ j
-    least = omega arith
-
-    most : max j k ≡ k
-    most = omega arith
-
-    by : (z : Bool) → cond z t (record t { c = with_entry (record { i = i; j = min j k; k = max j k; v = v }) t.c }) ≡ record t { c = cond z t.c (with_entry (record { i = i; j = min j k; k = max j k; v = v }) t.c) }
-    by true = refl
-    by false = refl
+c_only t i j k v h =
+    let e = least_most j k h in
+    rw (e.0, e.1) (cond_under (λ (es : List Entry). record t { c = es }) (is_zero v) t.c (with_entry (record { i = i; j = j; k = k; v = v }) t.c))
 
 in_order : (F : ℕ → ℕ → ℕ → ℚ) (i j k : ℕ) → j ≤ k → F i j k ≡ ordered F i j k
 unfolding ordered
@@ -165,39 +142,60 @@ not_in_order : (F : ℕ → ℕ → ℕ → ℚ) (i j k : ℕ) → k < j → ord
 unfolding ordered
 not_in_order F i j k h = when_false (leb j k) (F i j k) (grind (arith, nat_tests))
 
-pub filled_b : (a c d : ℕ) (from : Lists) (t : Entries) (i j k : ℕ) (v : ℚ) → AreEntries t → from.dim ≤ 8 → i < from.dim → j < from.dim → k < from.dim → v ≡ entry from.b i j k → AreFilled a (64 * i + 8 * j + k) c d from t → AreFilled a (64 * i + 8 * j + k + 1) c d from (with_b t i j k v)
-filled_b a c d from t i j k v sound most p q r e h =
-    subst (AreFilled a (64 * i + 8 * j + k + 1) c d from) (sym (b_only t i j k v)) (record {
+-- an index of the full tensors is one of those that are put
+within : {a b c d : ℕ} (from : Lists) (t : Entries) (n : ℕ) → AreFilled a b c d from t → n < from.dim → n < t.dim
+within from t n h p = subst (λ d. n < d) (sym h.dim) p
+
+pub may_put_b : {a c d : ℕ} (from : Lists) (t : Entries) (i j k : ℕ) (v : ℚ) → AreEntries t → i < from.dim → j < from.dim → k < from.dim → AreFilled a (64 * i + 8 * j + k) c d from t → IsAllowed (putting_b t i j k v)
+unfolding keeps_b keeps looked_up
+may_put_b from t i j k v sound p q r h =
+    allowed_b t i j k v sound (within from t i h p) (within from t j h q) (within from t k h r) (ap (λ s. keeps_b s i j k) h.shape) (filled_zero from.dim i j k (entry from.b) t.b h.of_b p q r)
+
+pub filled_b : {a c d : ℕ} (from : Lists) (t : Entries) (i j k : ℕ) (v : ℚ) → AreEntries t → from.dim ≤ 8 → i < from.dim → j < from.dim → k < from.dim → v ≡ entry from.b i j k → AreFilled a (64 * i + 8 * j + k) c d from t → AreFilled a (64 * i + 8 * j + k + 1) c d from (with_b t i j k v)
+filled_b from t i j k v sound most p q r e h =
+    subst (AreFilled _ _ _ _ from) (sym (b_only t i j k v)) (record {
       dim = h.dim;
       shape = h.shape;
       letter = h.letter;
       of_a = h.of_a;
-      of_b = filled_next (keeps_b t.shape) from.dim t.dim i j k (entry from.b) t.b v sound.b_stored most p q r e h.of_b;
+      of_b = filled_next (keeps_b t.shape) from.dim t.dim i j k (entry from.b) t.b v sound.b.stored most p q r e h.of_b;
       of_c = h.of_c;
       of_d = h.of_d;
     })
 
-pub filled_a : (b c d : ℕ) (from : Lists) (t : Entries) (i j k : ℕ) (v : ℚ) → AreEntries t → from.dim ≤ 8 → i < from.dim → j < from.dim → k < from.dim → j ≤ k → v ≡ entry from.a i j k → AreFilled (64 * i + 8 * j + k) b c d from t → AreFilled (64 * i + 8 * j + k + 1) b c d from (with_a t i j k v)
-filled_a b c d from t i j k v sound most p q r o e h =
-    subst (AreFilled (64 * i + 8 * j + k + 1) b c d from) (sym (a_only t i j k v o)) (record {
+pub may_put_a : {b c d : ℕ} (from : Lists) (t : Entries) (i j k : ℕ) (v : ℚ) → AreEntries t → i < from.dim → j < from.dim → k < from.dim → j ≤ k → AreFilled (64 * i + 8 * j + k) b c d from t → IsAllowed (putting_a t i j k v)
+unfolding keeps_a keeps looked_up
+may_put_a from t i j k v sound p q r o h =
+    let e = least_most j k o in
+    allowed_a t i j k v sound (within from t i h p) (within from t j h q) (within from t k h r) (ap (λ s. keeps_a s i j k) h.shape) (rw (e.0, e.1) (filled_zero from.dim i j k (ordered (entry from.a)) t.a h.of_a p q r))
+
+pub filled_a : {b c d : ℕ} (from : Lists) (t : Entries) (i j k : ℕ) (v : ℚ) → AreEntries t → from.dim ≤ 8 → i < from.dim → j < from.dim → k < from.dim → j ≤ k → v ≡ entry from.a i j k → AreFilled (64 * i + 8 * j + k) b c d from t → AreFilled (64 * i + 8 * j + k + 1) b c d from (with_a t i j k v)
+filled_a from t i j k v sound most p q r o e h =
+    subst (AreFilled _ _ _ _ from) (sym (a_only t i j k v o)) (record {
       dim = h.dim;
       shape = h.shape;
       letter = h.letter;
-      of_a = filled_next (keeps_a t.shape) from.dim t.dim i j k (ordered (entry from.a)) t.a v sound.a_stored most p q r (e ∙ in_order (entry from.a) i j k o) h.of_a;
+      of_a = filled_next (keeps_a t.shape) from.dim t.dim i j k (ordered (entry from.a)) t.a v sound.a.stored most p q r (e ∙ in_order (entry from.a) i j k o) h.of_a;
       of_b = h.of_b;
       of_c = h.of_c;
       of_d = h.of_d;
     })
 
-pub filled_c : (a b d : ℕ) (from : Lists) (t : Entries) (i j k : ℕ) (v : ℚ) → AreEntries t → from.dim ≤ 8 → i < from.dim → j < from.dim → k < from.dim → j ≤ k → v ≡ entry from.c i j k → AreFilled a b (64 * i + 8 * j + k) d from t → AreFilled a b (64 * i + 8 * j + k + 1) d from (with_c t i j k v)
-filled_c a b d from t i j k v sound most p q r o e h =
-    subst (AreFilled a b (64 * i + 8 * j + k + 1) d from) (sym (c_only t i j k v o)) (record {
+pub may_put_c : {a b d : ℕ} (from : Lists) (t : Entries) (i j k : ℕ) (v : ℚ) → AreEntries t → i < from.dim → j < from.dim → k < from.dim → j ≤ k → AreFilled a b (64 * i + 8 * j + k) d from t → IsAllowed (putting_c t i j k v)
+unfolding keeps_c keeps looked_up
+may_put_c from t i j k v sound p q r o h =
+    let e = least_most j k o in
+    allowed_c t i j k v sound (within from t i h p) (within from t j h q) (within from t k h r) (ap (λ s. keeps_c s i j k) h.shape) (rw (e.0, e.1) (filled_zero from.dim i j k (ordered (entry from.c)) t.c h.of_c p q r))
+
+pub filled_c : {a b d : ℕ} (from : Lists) (t : Entries) (i j k : ℕ) (v : ℚ) → AreEntries t → from.dim ≤ 8 → i < from.dim → j < from.dim → k < from.dim → j ≤ k → v ≡ entry from.c i j k → AreFilled a b (64 * i + 8 * j + k) d from t → AreFilled a b (64 * i + 8 * j + k + 1) d from (with_c t i j k v)
+filled_c from t i j k v sound most p q r o e h =
+    subst (AreFilled _ _ _ _ from) (sym (c_only t i j k v o)) (record {
       dim = h.dim;
       shape = h.shape;
       letter = h.letter;
       of_a = h.of_a;
       of_b = h.of_b;
-      of_c = filled_next (keeps_c t.shape) from.dim t.dim i j k (ordered (entry from.c)) t.c v sound.c_stored most p q r (e ∙ in_order (entry from.c) i j k o) h.of_c;
+      of_c = filled_next (keeps_c t.shape) from.dim t.dim i j k (ordered (entry from.c)) t.c v sound.c.stored most p q r (e ∙ in_order (entry from.c) i j k o) h.of_c;
       of_d = h.of_d;
     })
 
@@ -235,18 +233,18 @@ filled_outside p d from t most none h = record {
 
 d_only : (t : Entries) (i : ℕ) (v : ℚ) → with_d t i v ≡ record t { d = cond (is_zero v) t.d (with_value i v t.d) }
 unfolding with_d
-d_only t i v = by (is_zero v)
-  where
-    by : (z : Bool) → cond z t (record t { d = with_value i v t.d }) ≡ record t { d = cond z t.d (with_value i v t.d) }
-    by true = refl
-    by false = refl
+d_only t i v = cond_under (λ (es : List (ℕ × ℚ)). record t { d = es }) (is_zero v) t.d (with_value i v t.d)
 
-pub d_zero : (a b c i : ℕ) (from : Lists) (t : Entries) → i < from.dim → AreFilled a b c i from t → value_of t.d i ≡ 0ℚ
-d_zero a b c i from t p h = h.of_d i p ∙ when_false (ltb i i) (get_or from.d i 0ℚ) (is_here i)
+d_zero : {a b c : ℕ} (i : ℕ) (from : Lists) (t : Entries) → i < from.dim → AreFilled a b c i from t → value_of t.d i ≡ 0ℚ
+d_zero i from t p h = h.of_d i p ∙ when_false (ltb i i) (get_or from.d i 0ℚ) (is_here i)
 
-pub filled_d : (a b c : ℕ) (from : Lists) (t : Entries) (i : ℕ) (v : ℚ) → AreEntries t → i < from.dim → v ≡ get_or from.d i 0ℚ → AreFilled a b c i from t → AreFilled a b c (i + 1) from (with_d t i v)
-filled_d a b c from t i v sound p e h =
-    subst (AreFilled a b c (i + 1) from) (sym (d_only t i v)) (record {
+pub may_put_d : {a b c : ℕ} (from : Lists) (t : Entries) (i : ℕ) (v : ℚ) → AreEntries t → i < from.dim → AreFilled a b c i from t → IsAllowed (putting_d t i v)
+unfolding keeps_d keeps looked_up
+may_put_d from t i v sound p h = allowed_d t i v sound (within from t i h p) (ap (λ s. keeps_d s i) h.shape) (d_zero i from t p h)
+
+pub filled_d : {a b c : ℕ} (from : Lists) (t : Entries) (i : ℕ) (v : ℚ) → AreEntries t → i < from.dim → v ≡ get_or from.d i 0ℚ → AreFilled a b c i from t → AreFilled a b c (i + 1) from (with_d t i v)
+filled_d from t i v sound p e h =
+    subst (AreFilled _ _ _ _ from) (sym (d_only t i v)) (record {
       dim = h.dim;
       shape = h.shape;
       letter = h.letter;
@@ -257,10 +255,10 @@ filled_d a b c from t i v sound p e h =
     })
   where
     free : is_given t.d i ≡ false
-    free = not_given_from_zero (keeps_d t.shape) t.dim t.d i sound.d_stored (d_zero a b c i from t p h)
+    free = not_given_from_zero (keeps_d t.shape) t.dim t.d i sound.d.stored (d_zero i from t p h)
 
     by : (n : ℕ) → n < from.dim → (n ≡ i) ⊎ (n ≡ i → ⊥) → (z : Bool) → is_zero v ≡ z → value_of (cond z t.d (with_value i v t.d)) n ≡ when (ltb n (i + 1)) (get_or from.d n 0ℚ)
-    by n q (inl x) true w = ap (value_of t.d) x ∙ d_zero a b c i from t p h ∙ sym (zero_number v w) ∙ e ∙ ap (λ m. get_or from.d m 0ℚ) (sym x) ∙ sym (when_true (ltb n (i + 1)) (get_or from.d n 0ℚ) (is_before n (i + 1) (omega arith)))
+    by n q (inl x) true w = ap (value_of t.d) x ∙ d_zero i from t p h ∙ sym (zero_number v w) ∙ e ∙ ap (λ m. get_or from.d m 0ℚ) (sym x) ∙ sym (when_true (ltb n (i + 1)) (get_or from.d n 0ℚ) (is_before n (i + 1) (omega arith)))
     by n q (inl x) false w =
         value_of-with_value i v t.d n free
         ∙ cond_at (eqb n i) v (value_of t.d n) (grind (arith, nat_tests))

@@ -3,4 +3,3 @@ pub mod ChangeLemmas
 pub mod DiagonalLemmas
 pub mod FilledLemmas
 pub mod FullLemmas
-pub mod PutLemmas

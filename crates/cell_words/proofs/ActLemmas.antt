@@ -1,32 +1,13 @@
 -- The acts of a seat, step by step.
-use Rattle.std.proofs.Common.{◌≡◌, ◌≢◌, ℕ, ◌<◌, List, [], ◌∷◌, ◌++◌, length, map, refl, sym, ap, ap₂, ◌∙◌, subst, arith, Bool, true, false, true≢false, cond, nat_eq, eq-eqb, ne_eqb, eqb-true, Option, Some, None, length-append, append_assoc}
-use Rattle.std.proofs.lemmas.List.{map-append}
-use mathlib.Core.Logic.{dite}
-use native.Mathlib.Decide.{ℕ_discrete}
-use Rattle.amp_plan.specs.Plans.{Planning}
-use Rattle.amp_plan.specs.Needs.{dependents_at}
-use Rattle.cell_words.specs.Layout.{cells}
-use Rattle.cell_words.specs.declared.view.Act.{Act}
-use Rattle.cell_words.specs.declared.view.Portion.{Portion}
-use Rattle.cell_words.specs.declared.view.View.{View}
-use Rattle.cell_words.specs.Countdown.{acts_of, act_among, act_in, change, with_act, fresh_act, with_fresh, claimed, active, active_in, last_rank, tail_of, Holds}
-use Rattle.cell_words.specs.Acts.{AreDone, IsDone, IsAt}
-use Rattle.cell_words.proofs.BookLemmas.{unless, first_some, among_append}
-
-none_left : (o w : Option Act) → first_some o w ≡ None → (o ≡ None) × (w ≡ None)
-none_left None w e = (refl, e)
-none_left (Some a) w e = absurd (cc)
-
--- where a list has no act of r, neither part has
-pub none_parts : (r : ℕ) (xs ys : List Act) → act_among r (xs ++ ys) ≡ None → (act_among r xs ≡ None) × (act_among r ys ≡ None)
-none_parts r xs ys e = none_left (act_among r xs) (act_among r ys) (sym (among_append r xs ys) ∙ e)
+use Rattle.std.proofs.Common.{◌≡◌, ◌≢◌, ℕ, ◌<◌, List, [], ◌∷◌, ◌++◌, length, map, refl, sym, ap, ap₂, ◌∙◌, subst, arith, true, false, true≢false, cond, nat_eq, eq-eqb, ne_eqb, eqb-true, Some, None, length-append, append_assoc}
+use Rattle.cell_words.proofs.Names.{map-append, dite, ℕ_discrete, Planning, dependents_at, cells, Act, Portion, acts_of, act_among, act_in, change, with_act, fresh_act, with_fresh, claimed, active, tail_of, Holds, AreDone, IsDone, IsAt, View, unless, none-some}
+use Rattle.cell_words.specs.Countdown.{active_in, last_rank}
+use Rattle.std.proofs.lemmas.Option.{same_Some}
+use Rattle.cell_words.proofs.BookLemmas.{first_some, among_append, none_parts}
 
 not_head : (r : ℕ) (a : Act) (xs : List Act) → act_among r (a ∷ xs) ≡ None → (nat_eq r a.rank ≡ false) × (act_among r xs ≡ None)
-not_head r a xs e = by (nat_eq r a.rank) refl e
-  where
-    by : (b : Bool) → nat_eq r a.rank ≡ b → cond b (Some a) (act_among r xs) ≡ None → (nat_eq r a.rank ≡ false) × (act_among r xs ≡ None)
-    by true is e = absurd (cc)
-    by false is e = (is, e)
+not_head r a xs e =
+    (elim (nat_eq r a.rank) as (λ b. cond b (Some a) (act_among r xs) ≡ None → (b ≡ false) × (act_among r xs ≡ None)) [ true ↦ λ e. absurd (none-some a (sym e)) | false ↦ λ e. (refl, e) ]) e
 
 -- a change of the act of r where there is none
 change_none : (r : ℕ) (f : Act → Act) (xs : List Act) → act_among r xs ≡ None → change r f xs ≡ xs
@@ -52,15 +33,9 @@ last_push (x ∷ y ∷ xs) a = last_push (y ∷ xs) a
 -- the act of r is of the rank r
 pub among_rank : (r : ℕ) (xs : List Act) (a : Act) → act_among r xs ≡ Some a → a.rank ≡ r
 among_rank r [] a e = absurd (cc)
-among_rank r (x ∷ xs) a e = by (nat_eq r x.rank) refl (among_rank r xs a) e
-  where
-    Ranked : Option Act → Type 0
-    Ranked None = Unit {0}
-    Ranked (Some y) = y.rank ≡ r
-
-    by : (b : Bool) → nat_eq r x.rank ≡ b → (act_among r xs ≡ Some a → a.rank ≡ r) → cond b (Some x) (act_among r xs) ≡ Some a → a.rank ≡ r
-    by true is rest e = subst Ranked e (sym (eqb-true r x.rank is))
-    by false is rest e = rest e
+among_rank r (x ∷ xs) a e =
+    (elim (nat_eq r x.rank) as (λ b. nat_eq r x.rank ≡ b → cond b (Some x) (act_among r xs) ≡ Some a → a.rank ≡ r)
+    [ true ↦ λ is e. ap (λ (y : Act). y.rank) (sym (same_Some x a e)) ∙ sym (eqb-true r x.rank is) | false ↦ λ is e. among_rank r xs a e ]) refl e
 
 module _ (p : Planning) (number : ℕ) (done : List ℕ) where
   -- the seat is at the act, which stands in its view
@@ -105,15 +80,9 @@ module _ (p : Planning) (number : ℕ) (done : List ℕ) where
   pub among_done : (r : ℕ) (xs : List Act) (a : Act) → AreDone p xs → act_among r xs ≡ Some a → (a.filled ≡ true) × (a.signed ≡ length (dependents_at p a.rank))
   unfolding AreDone
   among_done r [] a h e = absurd (cc)
-  among_done r (x ∷ xs) a h e = by (nat_eq r x.rank) (among_done r xs a h.2) e
-    where
-      Full : Option Act → Type 0
-      Full None = Unit {0}
-      Full (Some y) = (y.filled ≡ true) × (y.signed ≡ length (dependents_at p y.rank))
-
-      by : (b : Bool) → (act_among r xs ≡ Some a → (a.filled ≡ true) × (a.signed ≡ length (dependents_at p a.rank))) → cond b (Some x) (act_among r xs) ≡ Some a → (a.filled ≡ true) × (a.signed ≡ length (dependents_at p a.rank))
-      by true rest e = subst Full e (h.0, h.1)
-      by false rest e = rest e
+  among_done r (x ∷ xs) a h e =
+      (elim (nat_eq r x.rank) as (λ b. cond b (Some x) (act_among r xs) ≡ Some a → (a.filled ≡ true) × (a.signed ≡ length (dependents_at p a.rank)))
+      [ true ↦ λ e. subst (λ (y : Act). (y.filled ≡ true) × (y.signed ≡ length (dependents_at p y.rank))) (same_Some x a e) (h.0, h.1) | false ↦ among_done r xs a h.2 ]) e
 
   pub all_done : (ps : List Portion) → IsDone p number done ps → AreDone p (acts_of ps)
   all_done ps h = subst (λ qs. AreDone p (acts_of qs)) (sym h.portions) (done_append h.acts (acts_of (tail_of ps)) h.finished h.others)

@@ -1,24 +1,9 @@
 -- A cell that is filled with all seats in hand.
-use Rattle.std.proofs.Common.{◌≡◌, ℕ, zero, suc, ◌<◌, ◌≤◌, List, [], ◌∷◌, ◌++◌, length, set, get_or, refl, sym, ap, ap₂, ◌∙◌, subst, arith, Bool, true, false, true≢false, ◌||◌, cond, nat_eq, Option, Some, None, length-set, get_or-set_other, get_or-set_same}
-use Rattle.std.proofs.lemmas.List.{map-append}
-use Rattle.std.specs.Prelude.{vec_capacity}
-use Rattle.atomic_table.specs.declared.shared.Seat.{Seat}
-use Rattle.amp_plan.specs.Plans.{Planning}
-use Rattle.amp_plan.specs.Needs.{has, needs_at}
-use Rattle.cell_words.specs.Layout.{cells}
-use Rattle.cell_words.specs.Countdown.{acts_of, act_among, act_in, numbers_of, tail_of, IsWhole, Known, Holds, by_sight, by_holding, by_need}
-use Rattle.cell_words.specs.Acts.{AreDone, ranks_of, IsDone}
-use Rattle.cell_words.specs.Seats.{IsToken, IsResting, IsHolding, IsSeatOf, view_of}
-use Rattle.cell_words.specs.Deals.{IsReady, IsDealt, AreTaken, IsGathered, AreSeats, AreAll, IsAfter, receipts_of, numbers_in}
-use Rattle.cell_words.specs.declared.view.Act.{Act}
-use Rattle.cell_words.specs.declared.view.Portion.{Portion}
-use Rattle.cell_words.specs.declared.view.View.{View}
-use Rattle.cell_words.specs.declared.countdown.Countdown.{Countdown}
-use Rattle.cell_words.specs.declared.countdown.CountSeat.{CountSeat}
+use Rattle.std.proofs.Common.{◌≡◌, ℕ, zero, suc, ◌<◌, ◌≤◌, List, [], ◌∷◌, ◌++◌, length, set, get_or, refl, sym, ap, ap₂, ◌∙◌, subst, arith, true, false, ◌||◌, cond, nat_eq, Option, Some, None, length-set, get_or-set_other, get_or-set_same, vec_capacity, is_some}
+use Rattle.cell_words.proofs.Names.{map-append, Seat, Planning, has, needs_at, cells, acts_of, act_among, act_in, numbers_of, tail_of, IsWhole, Known, Holds, by_sight, by_holding, by_need, AreDone, ranks_of, IsDone, IsToken, IsResting, IsHolding, IsSeatOf, view_of, IsReady, IsDealt, AreTaken, IsGathered, AreSeats, AreAll, IsAfter, receipts_of, numbers_in, Act, Portion, Countdown, CountSeat, View, get_or_default}
 use Rattle.cell_words.proofs.ActLemmas.{done_append, done_holds}
 use Rattle.cell_words.proofs.SeatLemmas.{plan_of}
 use Rattle.cell_words.proofs.GatherLemmas.{placed, same_standing}
-use Rattle.cell_words.proofs.DealLemmas.{same_default}
 
 -- Portions and the seats that can have them, one by one.
 abbrev pub Match : Planning → List Portion → List CountSeat → Type 0
@@ -58,26 +43,10 @@ match_first p (q ∷ ps) (s ∷ ss) d l h =
     }
 
 -- a rank has an act where it stands among the ranks of the acts
-abbrev pub is_some : Option Act → Bool
-is_some None = false
-is_some (Some a) = true
-
 pub among_has : (r : ℕ) (xs : List Act) → has r (ranks_of xs) ≡ is_some (act_among r xs)
 unfolding has
 among_has r [] = refl
-among_has r (a ∷ xs) = by (nat_eq r a.rank) (among_has r xs)
-  where
-    by : (b : Bool) → has r (ranks_of xs) ≡ is_some (act_among r xs) → b || has r (ranks_of xs) ≡ is_some (cond b (Some a) (act_among r xs))
-    by true e = refl
-    by false e = e
-
-pub has_none : (o : Option Act) → is_some o ≡ false → o ≡ None
-has_none None e = refl
-has_none (Some a) e = absurd (true≢false e)
-
-pub has_some : (o : Option Act) → is_some o ≡ true → (a : Act) × (o ≡ Some a)
-has_some None e = absurd (true≢false (sym e))
-has_some (Some a) e = (a, refl)
+among_has r (a ∷ xs) = elim (nat_eq r a.rank) as (λ b. b || has r (ranks_of xs) ≡ is_some (cond b (Some a) (act_among r xs))) [ true ↦ refl | false ↦ among_has r xs ]
 
 -- what a seat that holds nothing knows, a seat knows that has seen as much
 pub known_by_seen : (v w : View) → w.plan ≡ v.plan → ((r : ℕ) → has r v.seen ≡ true → has r w.seen ≡ true) → ((r : ℕ) → Holds v r → ⊥) → (k : ℕ) → Known v k → Known w k
@@ -163,7 +132,7 @@ first_view_is now x y place l = ap view_of (first_is now x y place l)
 -- what stands in the first seat beside its token
 pub first_stays : {A : Type 0} (f : CountSeat → A) (old now : List CountSeat) (x y d : CountSeat) (place : Option (Seat (Unit {0}) View)) → 0 < length old → length now ≡ length old
     → ((s : CountSeat) → f (record { place = place; number = s.number; held = s.held; done = s.done }) ≡ f s) → f (get_or now 0 y) ≡ f (get_or old 0 y) → f (get_or (placed now 0 x place) 0 y) ≡ f (get_or old 0 d)
-first_stays f old now x y d place some len same is = same_standing f now 0 0 x y place (omega (arith, len, some)) same ∙ is ∙ ap f (same_default old 0 y d some)
+first_stays f old now x y d place some len same is = same_standing f now 0 0 x y place (omega (arith, len, some)) same ∙ is ∙ ap f (get_or_default old 0 y d some)
 
 module _ (b : Countdown) (old : List CountSeat) (place : Seat (Unit {0}) View) (token : IsToken b place) (g : IsGathered b.base.plan old place.me.0) where
   pub first_rests : (now : List CountSeat) (x y : CountSeat) → AreTaken old now → 0 < length old → IsResting b (get_or (placed now 0 x (Some place)) 0 y)

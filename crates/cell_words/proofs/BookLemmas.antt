@@ -1,23 +1,6 @@
 -- Books of acts, and the cells under a book that changes at one rank.
-use Rattle.std.proofs.Common.{◌≡◌, ◌≢◌, ◌⊎◌, ℕ, zero, suc, ◌+◌, ◌*◌, ◌<◌, ◌≤◌, ◌^◌, List, [], ◌∷◌, ◌++◌, length, map, take, get_or, refl, sym, ap, ap₂, ◌∙◌, subst, ⊎_elim, arith, inl, inr, Bool, true, false, true≢false, not, ◌||◌, cond, nat_eq, nat_lt, eq-eqb, ne_eqb, eqb-true, Option, Some, None, append_assoc, lt_of_not-le}
-use Rattle.std.proofs.lemmas.List.{map-append}
-use Rattle.std.specs.Prelude.{slice_index}
-use mathlib.Core.Logic.{dite}
-use native.Mathlib.Decide.{ℕ_discrete, dec_le}
-use Rattle.amp_plan.specs.Plans.{Planning}
-use Rattle.amp_plan.specs.Needs.{has, needs_at}
-use Rattle.amp_plan.specs.Rows.{AreDistinct}
-use Rattle.cell_words.specs.Layout.{code_of}
-use Rattle.cell_words.specs.declared.view.Act.{Act}
-use Rattle.cell_words.specs.declared.view.Portion.{Portion}
-use Rattle.cell_words.specs.declared.view.View.{View}
-use Rattle.cell_words.specs.Countdown.{CLAIMED, FILLED, acts_of, act_among, act_in, acts_for, Book, signed_in, signs, count_of, unsigned, state_of, written_of, IsFilled, IsActIn, Cell, change, with_act, fresh_act, with_fresh}
-
-pub when : {A : Type 0} (b : Bool) (x y : A) → b ≡ true → cond b x y ≡ x
-when b x y e = ap (λ c. cond c x y) e
-
-pub unless : {A : Type 0} (b : Bool) (x y : A) → b ≡ false → cond b x y ≡ y
-unless b x y e = ap (λ c. cond c x y) e
+use Rattle.std.proofs.Common.{is_some, ◌≡◌, ◌≢◌, ℕ, zero, suc, ◌+◌, ◌*◌, ◌<◌, ◌≤◌, ◌^◌, List, [], ◌∷◌, ◌++◌, length, map, take, get_or, refl, sym, ap, ap₂, ◌∙◌, subst, ⊎_elim, arith, Bool, true, false, true≢false, not, ◌||◌, cond, nat_eq, nat_lt, eq-eqb, ne_eqb, eqb-true, Option, Some, None, append_assoc, lt_of_not-le, slice_index}
+use Rattle.cell_words.proofs.Names.{when, unless, none-some, or_cases, or-true, or-false, or_assoc, map-append, dite, ℕ_discrete, dec_le, Planning, has, needs_at, AreDistinct, code_of, Act, Portion, CLAIMED, FILLED, acts_of, act_among, act_in, acts_for, Book, signed_in, signs, count_of, unsigned, state_of, written_of, IsFilled, IsActIn, Cell, change, with_act, fresh_act, with_fresh, View}
 
 abbrev pub put : Book → ℕ → Act → Book
 put b r a k = cond (nat_eq k r) (Some a) (b k)
@@ -61,32 +44,16 @@ cell_else p words new b c r e same kept h = record {
 
 pub count_le : (f : ℕ → Bool) (xs : List ℕ) → count_of f xs ≤ length xs
 count_le f [] = omega arith
-count_le f (x ∷ xs) = step (f x) (count_le f xs)
-  where
-    step : (b : Bool) → count_of f xs ≤ length xs → cond b (suc (count_of f xs)) (count_of f xs) ≤ suc (length xs)
-    step true h = omega arith
-    step false h = omega arith
+count_le f (x ∷ xs) = let h = count_le f xs in elim (f x) as (λ b. cond b (suc (count_of f xs)) (count_of f xs) ≤ suc (length xs)) [ true ↦ omega arith | false ↦ omega arith ]
 
 -- what a state word says
 pub says_filled : (n : ℕ) (o : Option Act) → n < 2 ^ 63 → state_of n o ≡ FILLED → IsFilled o
 says_filled n None low e = absurd (omega arith)
-says_filled n (Some a) low e = fill a.filled refl e
-  where
-    fill : (f : Bool) → a.filled ≡ f → cond f FILLED CLAIMED ≡ FILLED → a.filled ≡ true
-    fill true is e = is
-    fill false is e = absurd (omega (arith, e))
+says_filled n (Some a) low e = (elim a.filled as (λ f. cond f FILLED CLAIMED ≡ FILLED → f ≡ true) [ true ↦ λ _. refl | false ↦ λ e. absurd (omega (arith, e)) ]) e
 
 pub says_free : (n : ℕ) (o : Option Act) → state_of n o ≡ 0 → (o ≡ None) × (n ≡ 0)
 says_free n None e = (refl, e)
-says_free n (Some a) e = absurd (fill a.filled e)
-  where
-    fill : (f : Bool) → cond f FILLED CLAIMED ≡ 0 → ⊥
-    fill true e = omega (arith, e)
-    fill false e = omega (arith, e)
-
-or_true : (a b : Bool) → a || b ≡ true → (a ≡ true) ⊎ (b ≡ true)
-or_true true b e = inl refl
-or_true false b e = inr e
+says_free n (Some a) e = absurd ((elim a.filled as (λ f. cond f FILLED CLAIMED ≡ 0 → ⊥) [ true ↦ λ e. omega (arith, e) | false ↦ λ e. omega (arith, e) ]) e)
 
 -- where none is left to sign, each has signed
 pub all_signed : (f : ℕ → Bool) (xs : List ℕ) → count_of (λ q. not (f q)) xs ≡ 0 → (q : ℕ) → has q xs ≡ true → f q ≡ true
@@ -95,24 +62,35 @@ all_signed f [] e q h = absurd (true≢false (sym h))
 all_signed f (x ∷ xs) e q h = ⊎_elim
     (λ (s : nat_eq q x ≡ true). let is : q ≡ x = eqb-true q x s in subst (λ k. f k ≡ true) (sym is) (head (f x) e).0)
     (λ (s : has q xs ≡ true). all_signed f xs (head (f x) e).1 q s)
-    (or_true (nat_eq q x) (has q xs) h)
+    (or_cases (nat_eq q x) (has q xs) h)
   where
     head : (b : Bool) → cond (not b) (suc (count_of (λ q. not (f q)) xs)) (count_of (λ q. not (f q)) xs) ≡ 0 → (b ≡ true) × (count_of (λ q. not (f q)) xs ≡ 0)
     head true e = (refl, e)
     head false e = absurd (omega (arith, e))
 
+pub has_none : (o : Option Act) → is_some o ≡ false → o ≡ None
+has_none None e = refl
+has_none (Some a) e = absurd (true≢false e)
+
+pub has_some : (o : Option Act) → is_some o ≡ true → (a : Act) × (o ≡ Some a)
+has_some None e = absurd (true≢false (sym e))
+has_some (Some a) e = (a, refl)
+
 abbrev pub first_some : Option Act → Option Act → Option Act
 first_some None o = o
 first_some (Some a) o = Some a
 
--- the acts of a view
 pub among_append : (k : ℕ) (xs ys : List Act) → act_among k (xs ++ ys) ≡ first_some (act_among k xs) (act_among k ys)
 among_append k [] ys = refl
-among_append k (a ∷ xs) ys = step (nat_eq k a.rank) (among_append k xs ys)
-  where
-    step : (b : Bool) → act_among k (xs ++ ys) ≡ first_some (act_among k xs) (act_among k ys) → cond b (Some a) (act_among k (xs ++ ys)) ≡ first_some (cond b (Some a) (act_among k xs)) (act_among k ys)
-    step true e = refl
-    step false e = e
+among_append k (a ∷ xs) ys = elim (nat_eq k a.rank) as (λ b. cond b (Some a) (act_among k (xs ++ ys)) ≡ first_some (cond b (Some a) (act_among k xs)) (act_among k ys)) [ true ↦ refl | false ↦ among_append k xs ys ]
+
+none_left : (o w : Option Act) → first_some o w ≡ None → (o ≡ None) × (w ≡ None)
+none_left None w e = (refl, e)
+none_left (Some a) w e = absurd (cc)
+
+-- where a list has no act of r, neither part has
+pub none_parts : (r : ℕ) (xs ys : List Act) → act_among r (xs ++ ys) ≡ None → (act_among r xs ≡ None) × (act_among r ys ≡ None)
+none_parts r xs ys e = none_left (act_among r xs) (act_among r ys) (sym (among_append r xs ys) ∙ e)
 
 pub change_acts : (r : ℕ) (f : Act → Act) (ps : List Portion) → acts_of (map (λ p. record { number = p.number; acts = change r f p.acts }) ps) ≡ change r f (acts_of ps)
 change_acts r f [] = refl
@@ -122,25 +100,22 @@ abbrev pub changed : (Act → Act) → Option Act → Option Act
 changed f None = None
 changed f (Some a) = Some (f a)
 
+-- an act that may have been changed keeps its rank
+rank_same : (f : Act → Act) → ((a : Act) → (f a).rank ≡ a.rank) → (a : Act) (b : Bool) → (cond b (f a) a).rank ≡ a.rank
+rank_same f keep a true = keep a
+rank_same f keep a false = refl
+
 -- the act of r is changed, and no other
 pub among_change : (r : ℕ) (f : Act → Act) → ((a : Act) → (f a).rank ≡ a.rank) → (k : ℕ) (xs : List Act) → act_among k (change r f xs) ≡ cond (nat_eq k r) (changed f (act_among k xs)) (act_among k xs)
-among_change r f keep k [] = sym (stay (nat_eq k r))
-  where
-    stay : (b : Bool) → cond b (changed f None) None ≡ None
-    stay true = refl
-    stay false = refl
+among_change r f keep k [] = elim (nat_eq k r) as (λ b. None ≡ cond b (changed f None) None) [ true ↦ refl | false ↦ refl ]
 among_change r f keep k (a ∷ xs) = dite (ℕ_discrete k a.rank)
     (λ (e : k ≡ a.rank). let m : nat_eq k a.rank ≡ true = eq-eqb k a.rank e in
-    when (nat_eq k (now (nat_eq r a.rank)).rank) (Some (now (nat_eq r a.rank))) _ (ap (nat_eq k) (rank_same (nat_eq r a.rank)) ∙ m) ∙ mine e (nat_eq r a.rank) refl ∙ ap (λ o. cond (nat_eq k r) (changed f o) o) (sym (when (nat_eq k a.rank) (Some a) (act_among k xs) m)))
+    when (nat_eq k (now (nat_eq r a.rank)).rank) (Some (now (nat_eq r a.rank))) _ (ap (nat_eq k) (rank_same f keep a (nat_eq r a.rank)) ∙ m) ∙ mine e (nat_eq r a.rank) refl ∙ ap (λ o. cond (nat_eq k r) (changed f o) o) (sym (when (nat_eq k a.rank) (Some a) (act_among k xs) m)))
     (λ (n : k ≢ a.rank). let m : nat_eq k a.rank ≡ false = ne_eqb k a.rank n in
-    unless (nat_eq k (now (nat_eq r a.rank)).rank) (Some (now (nat_eq r a.rank))) _ (ap (nat_eq k) (rank_same (nat_eq r a.rank)) ∙ m) ∙ among_change r f keep k xs ∙ ap (λ o. cond (nat_eq k r) (changed f o) o) (sym (unless (nat_eq k a.rank) (Some a) (act_among k xs) m)))
+    unless (nat_eq k (now (nat_eq r a.rank)).rank) (Some (now (nat_eq r a.rank))) _ (ap (nat_eq k) (rank_same f keep a (nat_eq r a.rank)) ∙ m) ∙ among_change r f keep k xs ∙ ap (λ o. cond (nat_eq k r) (changed f o) o) (sym (unless (nat_eq k a.rank) (Some a) (act_among k xs) m)))
   where
     now : Bool → Act
     now b = cond b (f a) a
-
-    rank_same : (b : Bool) → (cond b (f a) a).rank ≡ a.rank
-    rank_same true = keep a
-    rank_same false = refl
 
     mine : k ≡ a.rank → (b : Bool) → nat_eq r a.rank ≡ b → Some (cond b (f a) a) ≡ cond (nat_eq k r) (Some (f a)) (Some a)
     mine e true is = sym (when (nat_eq k r) (Some (f a)) (Some a) (eq-eqb k r (e ∙ sym (eqb-true r a.rank is))))
@@ -154,37 +129,21 @@ pub act_fresh : (r k : ℕ) (ps : List Portion) → 0 < length ps → act_among 
 act_fresh r k [] some_portion free = absurd (omega arith)
 act_fresh r k (p ∷ ps) some_portion free = ap (act_among k) (append_assoc p.acts (fresh_act r ∷ []) (acts_of ps)) ∙ among_append k p.acts (fresh_act r ∷ acts_of ps) ∙ split (nat_eq k r) refl ∙ ap (cond (nat_eq k r) (Some (fresh_act r))) (sym (among_append k p.acts (acts_of ps)))
   where
-    front_none : (o w : Option Act) → first_some o w ≡ None → o ≡ None
-    front_none None w e = refl
-    front_none (Some a) w e = absurd (cc)
-
     split : (b : Bool) → nat_eq k r ≡ b → first_some (act_among k p.acts) (cond b (Some (fresh_act r)) (act_among k (acts_of ps))) ≡ cond b (Some (fresh_act r)) (first_some (act_among k p.acts) (act_among k (acts_of ps)))
-    split true is = ap (λ o. first_some o (Some (fresh_act r))) (ap (λ j. act_among j p.acts) (eqb-true k r is) ∙ front_none (act_among r p.acts) (act_among r (acts_of ps)) (sym (among_append r p.acts (acts_of ps)) ∙ free))
+    split true is = ap (λ o. first_some o (Some (fresh_act r))) (ap (λ j. act_among j p.acts) (eqb-true k r is) ∙ (none_parts r p.acts (acts_of ps) free).0)
     split false is = refl
-
-pub or_false : (a : Bool) → a || false ≡ a
-or_false true = refl
-or_false false = refl
-
-or_assoc : (a b c : Bool) → a || (b || c) ≡ (a || b) || c
-or_assoc true b c = refl
-or_assoc false b c = refl
 
 pub has_more : (u : ℕ) (xs : List ℕ) (s : ℕ) → s < length xs → has u (take (suc s) xs) ≡ has u (take s xs) || nat_eq u (get_or xs s 0)
 unfolding has
 has_more u [] s low = absurd (omega arith)
-has_more u (y ∷ ys) zero low = or_false (nat_eq u y)
-has_more u (y ∷ ys) (suc s) low = ap (λ c. nat_eq u y || c) (has_more u ys s (omega arith)) ∙ or_assoc (nat_eq u y) (has u (take s ys)) (nat_eq u (get_or ys s 0))
+has_more u (y ∷ ys) zero low = or-false (nat_eq u y)
+has_more u (y ∷ ys) (suc s) low = ap (λ c. nat_eq u y || c) (has_more u ys s (omega arith)) ∙ sym (or_assoc (nat_eq u y) (has u (take s ys)) (nat_eq u (get_or ys s 0)))
 
 pub has_at : (xs : List ℕ) (s : ℕ) → s < length xs → has (get_or xs s 0) xs ≡ true
 unfolding has
 has_at [] s low = absurd (omega arith)
 has_at (y ∷ ys) zero low = ap (λ c. c || has y ys) (eq-eqb y y refl)
-has_at (y ∷ ys) (suc s) low = ap (λ c. nat_eq (get_or ys s 0) y || c) (has_at ys s (omega arith)) ∙ or_true_right (nat_eq (get_or ys s 0) y)
-  where
-    or_true_right : (c : Bool) → c || true ≡ true
-    or_true_right true = refl
-    or_true_right false = refl
+has_at (y ∷ ys) (suc s) low = ap (λ c. nat_eq (get_or ys s 0) y || c) (has_at ys s (omega arith)) ∙ or-true (nat_eq (get_or ys s 0) y)
 
 -- the next one hasn't come before
 pub has_not_yet : (xs : List ℕ) (s : ℕ) → s < length xs → AreDistinct xs → has (get_or xs s 0) (take s xs) ≡ false
@@ -210,47 +169,30 @@ count_fewer f g r (x ∷ xs) d at yes_ no_ e = dite (ℕ_discrete r x)
     (λ (s : r ≡ x). let away : has r xs ≡ false = ap (λ k. has k xs) s ∙ d.0 in
     when (f x) (suc (count_of f xs)) (count_of f xs) (ap f (sym s) ∙ yes_) ∙ ap suc (count_none f g r xs away e) ∙ ap suc (sym (unless (g x) (suc (count_of g xs)) (count_of g xs) (ap g (sym s) ∙ no_))))
     (λ n. let t : has r xs ≡ true = sym (ap (λ c. c || has r xs) (ne_eqb r x n)) ∙ at in
-    both (f x) (g x) (e x (λ c. n (sym c))) (count_of f xs) (count_of g xs) (count_fewer f g r xs d.1 t yes_ no_ e))
-  where
-    both : (a b : Bool) → a ≡ b → (m k : ℕ) → m ≡ suc k → cond a (suc m) m ≡ suc (cond b (suc k) k)
-    both a b s m k h = ap (λ c. cond c (suc m) m) s ∙ same b h
-      where
-        same : (c : Bool) → m ≡ suc k → cond c (suc m) m ≡ suc (cond c (suc k) k)
-        same true h = ap suc h
-        same false h = h
+    let h = count_fewer f g r xs d.1 t yes_ no_ e in let m : ℕ = count_of f xs in let k : ℕ = count_of g xs in
+    ap (λ c. cond c (suc m) m) (e x (λ c. n (sym c))) ∙ (elim (g x) as (λ c. cond c (suc m) m ≡ suc (cond c (suc k) k)) [ true ↦ ap suc h | false ↦ h ]))
 
 -- how many acts of a rank
 pub acts_for_append : (k : ℕ) (xs ys : List Act) → acts_for k (xs ++ ys) ≡ acts_for k xs + acts_for k ys
 acts_for_append k [] ys = omega arith
-acts_for_append k (a ∷ xs) ys = step (nat_eq k a.rank) (acts_for_append k xs ys)
-  where
-    step : (b : Bool) → acts_for k (xs ++ ys) ≡ acts_for k xs + acts_for k ys → cond b (suc (acts_for k (xs ++ ys))) (acts_for k (xs ++ ys)) ≡ cond b (suc (acts_for k xs)) (acts_for k xs) + acts_for k ys
-    step true e = omega arith
-    step false e = e
+acts_for_append k (a ∷ xs) ys =
+    let e = acts_for_append k xs ys in
+    elim (nat_eq k a.rank) as (λ b. cond b (suc (acts_for k (xs ++ ys))) (acts_for k (xs ++ ys)) ≡ cond b (suc (acts_for k xs)) (acts_for k xs) + acts_for k ys) [ true ↦ omega arith | false ↦ e ]
 
+-- no act of the rank counts where none is found, and none is found where none counts
 pub acts_for_none : (k : ℕ) (xs : List Act) → acts_for k xs ≡ 0 → act_among k xs ≡ None
 acts_for_none k [] e = refl
-acts_for_none k (a ∷ xs) e = step (nat_eq k a.rank) e (acts_for_none k xs)
-  where
-    step : (b : Bool) → cond b (suc (acts_for k xs)) (acts_for k xs) ≡ 0 → (acts_for k xs ≡ 0 → act_among k xs ≡ None) → cond b (Some a) (act_among k xs) ≡ None
-    step true e h = absurd (omega arith)
-    step false e h = h e
+acts_for_none k (a ∷ xs) e =
+    (elim (nat_eq k a.rank) as (λ b. cond b (suc (acts_for k xs)) (acts_for k xs) ≡ 0 → cond b (Some a) (act_among k xs) ≡ None) [ true ↦ λ e. absurd (omega (arith, e)) | false ↦ acts_for_none k xs ]) e
 
 pub none_acts : (k : ℕ) (xs : List Act) → act_among k xs ≡ None → acts_for k xs ≡ 0
 none_acts k [] e = refl
-none_acts k (a ∷ xs) e = step (nat_eq k a.rank) e (none_acts k xs)
-  where
-    step : (b : Bool) → cond b (Some a) (act_among k xs) ≡ None → (act_among k xs ≡ None → acts_for k xs ≡ 0) → cond b (suc (acts_for k xs)) (acts_for k xs) ≡ 0
-    step true e h = absurd (cc)
-    step false e h = h e
+none_acts k (a ∷ xs) e =
+    (elim (nat_eq k a.rank) as (λ b. cond b (Some a) (act_among k xs) ≡ None → cond b (suc (acts_for k xs)) (acts_for k xs) ≡ 0) [ true ↦ λ e. absurd (none-some a (sym e)) | false ↦ none_acts k xs ]) e
 
 pub acts_for_change : (r : ℕ) (f : Act → Act) → ((a : Act) → (f a).rank ≡ a.rank) → (k : ℕ) (xs : List Act) → acts_for k (change r f xs) ≡ acts_for k xs
 acts_for_change r f keep k [] = refl
-acts_for_change r f keep k (a ∷ xs) = λ i. cond (nat_eq k (rank_same (nat_eq r a.rank) i)) (suc (acts_for_change r f keep k xs i)) (acts_for_change r f keep k xs i)
-  where
-    rank_same : (b : Bool) → (cond b (f a) a).rank ≡ a.rank
-    rank_same true = keep a
-    rank_same false = refl
+acts_for_change r f keep k (a ∷ xs) = λ i. cond (nat_eq k (rank_same f keep a (nat_eq r a.rank) i)) (suc (acts_for_change r f keep k xs i)) (acts_for_change r f keep k xs i)
 
 pub acts_for_changed : (r : ℕ) (f : Act → Act) → ((a : Act) → (f a).rank ≡ a.rank) → (k : ℕ) (ps : List Portion) → acts_for k (acts_of (map (λ p. record { number = p.number; acts = change r f p.acts }) ps)) ≡ acts_for k (acts_of ps)
 acts_for_changed r f keep k ps = ap (acts_for k) (change_acts r f ps) ∙ acts_for_change r f keep k (acts_of ps)
@@ -289,11 +231,7 @@ all_below : (n : ℕ) (xs : List Act) → ((k : ℕ) → n ≤ k → acts_for k 
 all_below n [] none = omega arith
 all_below n (a ∷ xs) none = dite (dec_le n a.rank)
     (λ (l : n ≤ a.rank). absurd (let e = none a.rank l in let y = when (nat_eq a.rank a.rank) (suc (acts_for a.rank xs)) (acts_for a.rank xs) (eq-eqb a.rank a.rank refl) in omega arith))
-    (λ no_l. let m = one_more n a xs (lt_of_not-le no_l) in let r = all_below n xs (λ k l. fewer k (nat_eq k a.rank) (none k l)) in omega arith)
-  where
-    fewer : (k : ℕ) (b : Bool) → cond b (suc (acts_for k xs)) (acts_for k xs) ≡ 0 → acts_for k xs ≡ 0
-    fewer k true e = absurd (omega arith)
-    fewer k false e = e
+    (λ no_l. let m = one_more n a xs (lt_of_not-le no_l) in let r = all_below n xs (λ k l. (elim (nat_eq k a.rank) as (λ b. cond b (suc (acts_for k xs)) (acts_for k xs) ≡ 0 → acts_for k xs ≡ 0) [ true ↦ λ e. absurd (omega (arith, e)) | false ↦ λ e. e ]) (none k l)) in omega arith)
 
 most_below : (n : ℕ) (xs : List Act) → ((k : ℕ) → acts_for k xs ≤ 1) → below_n n xs ≤ n
 unfolding below_n

@@ -1,16 +1,6 @@
 -- The portions of one view, dealt to seats.
-use Rattle.std.proofs.Common.{◌≡◌, ◌≢◌, ℕ, zero, suc, ◌<◌, ◌≤◌, List, [], ◌∷◌, length, drop, set, get_or, refl, sym, ap, ◌∙◌, subst, arith, None, get_or-set_other, get_or-set_same}
-use mathlib.Core.Logic.{dite}
-use native.Mathlib.Decide.{ℕ_discrete}
-use Rattle.atomic_table.specs.declared.shared.Seat.{Seat}
-use Rattle.cell_words.specs.Countdown.{acts_of, head_of, tail_of}
-use Rattle.cell_words.specs.Acts.{AreDone}
-use Rattle.cell_words.specs.Seats.{IsToken, IsResting, IsHolding}
-use Rattle.cell_words.specs.Deals.{IsReady, IsDealt}
-use Rattle.cell_words.specs.declared.view.Portion.{Portion}
-use Rattle.cell_words.specs.declared.view.View.{View}
-use Rattle.cell_words.specs.declared.countdown.Countdown.{Countdown}
-use Rattle.cell_words.specs.declared.countdown.CountSeat.{CountSeat}
+use Rattle.std.proofs.Common.{take, ◌++◌, append-nil, take_all, drop_of_length-le, ◌≡◌, ◌≢◌, ℕ, zero, suc, ◌<◌, ◌≤◌, List, [], ◌∷◌, length, drop, set, get_or, refl, sym, ap, ◌∙◌, subst, arith, None, get_or-set_other, get_or-set_same}
+use Rattle.cell_words.proofs.Names.{Planning, get_or_default, dite, ℕ_discrete, Seat, acts_of, head_of, tail_of, AreDone, IsToken, IsResting, IsHolding, IsReady, IsDealt, Portion, Countdown, CountSeat, View}
 use Rattle.cell_words.proofs.SeatLemmas.{with_token}
 
 -- the first of what is left, and the rest
@@ -31,14 +21,13 @@ one_left (p ∷ []) zero q l = refl
 one_left (p ∷ r ∷ ps) zero q l = absurd (omega arith)
 one_left (p ∷ ps) (suc k) q l = one_left ps k q (omega arith)
 
-pub same_default : {A : Type 0} (xs : List A) (i : ℕ) (x y : A) → i < length xs → get_or xs i x ≡ get_or xs i y
-same_default [] i x y l = absurd (omega arith)
-same_default (z ∷ xs) zero x y l = refl
-same_default (z ∷ xs) (suc i) x y l = same_default xs i x y (omega arith)
+-- a slice of a whole Vec is written back
+pub whole : {X : Type 0} (n : ℕ) (xs ys : List X) → length xs ≡ n → length ys ≡ n → take n (xs ++ drop (length xs) ys) ≡ xs
+whole n xs ys a b = ap (λ l. take n (xs ++ l)) (drop_of_length-le ys {i = length xs} (omega arith)) ∙ ap (take n) (append-nil xs) ∙ take_all n xs (omega arith)
 
-nothing_done : (b : Countdown) → AreDone b.base.plan []
+pub nothing_done : (p : Planning) → AreDone p []
 unfolding AreDone
-nothing_done b = tt
+nothing_done p = tt
 
 -- a seat with its portion
 dealt : (b : Countdown) (v : View) (q : Portion) (s : CountSeat) (y : Seat (Unit {0}) View) → IsReady b.base.plan q s → IsToken b y → y.me.0.portions ≡ q ∷ [] → y.me.0.seen ≡ v.seen
@@ -60,7 +49,7 @@ dealt b v q s y ready token portions seen looks latest = record {
         acts = q.acts;
         portions = portions ∙ (λ i. record { number = ready.number i; acts = q.acts } ∷ tail_of (sym portions i));
         finished = ready.finished;
-        others = subst (λ ps. AreDone b.base.plan (acts_of (tail_of ps))) (sym portions) (nothing_done b);
+        others = subst (λ ps. AreDone b.base.plan (acts_of (tail_of ps))) (sym portions) (nothing_done b.base.plan);
         ranks = ready.done;
       };
       room = ready.room;
@@ -76,7 +65,7 @@ pub deal_more : (b : Countdown) (v : View) (old now : List CountSeat) (k : ℕ) 
     → (j : ℕ) (d : CountSeat) → j < suc k → IsDealt b v (get_or old j d) (get_or (set now k (with_token (get_or now k x) y)) j d)
 deal_more b v old now k x y q len low so_far left ready token portions seen looks latest j d below = dite (ℕ_discrete j k)
     (λ (e : j ≡ k).
-    let same : get_or now k x ≡ get_or old k d = left k x (omega arith) ∙ same_default old k x d low in
+    let same : get_or now k x ≡ get_or old k d = left k x (omega arith) ∙ get_or_default old k x d low in
     let here : get_or (set now k (with_token (get_or now k x) y)) j d ≡ with_token (get_or old k d) y =
     ap (λ i. get_or (set now k (with_token (get_or now k x) y)) i d) e ∙ get_or-set_same now k (with_token (get_or now k x) y) d (omega (arith, len, low)) ∙ ap (λ s. with_token s y) same in
     subst (λ (z : CountSeat × CountSeat). IsDealt b v z.0 z.1) (λ i. (get_or old (sym e i) d, sym here i)) (dealt b v q (get_or old k d) y (ready d) token portions seen looks latest))

@@ -1,19 +1,14 @@
 -- The filler's list of outcomes.
-use Rattle.std.proofs.Common.{◌≡◌, ◌⊎◌, inl, inr, refl, zero, suc, [], ◌∷◌, map, replicate, Option, Some, None, append-nil, length-append, take_all, ℕ, ◌<◌, ◌≤◌, ◌+◌, ◌-◌, ◌++◌, List, take, drop, length, arith, sym, ap, ◌∙◌, subst}
-use Rattle.std.proofs.lemmas.Bool.{cases_lt}
-use Rattle.std.proofs.lemmas.List.{length-map, length-replicate, length-take-le, get_or-drop, get_or-take, take-append-drop, length-drop, take-take, get_or_default}
-use Rattle.std.specs.Prelude.{vec_len, get_or}
-use Rattle.amp_plan.specs.Plans.{Planning, tensors_of}
+use Rattle.std.proofs.Common.{◌≡◌, ◌⊎◌, inl, inr, refl, zero, suc, [], ◌∷◌, map, replicate, Option, Some, None, append-nil, length-append, take_all, ℕ, ◌<◌, ◌≤◌, ◌+◌, ◌-◌, ◌++◌, List, take, drop, length, arith, sym, ap, ◌∙◌, subst, length-take-le, get_or-drop, get_or-take, take-append-drop, length-drop, take-take, vec_len, get_or}
+use Rattle.std.proofs.lemmas.List.{length-replicate}
 use Rattle.amp_terms.specs.Outcomes.{outcomes}
 use Rattle.amp_terms.specs.Tables.{full_table}
-use Rattle.amp_terms.specs.declared.Outcome.{Outcome}
-use Rattle.amp_terms.specs.declared.Outcome.TheVariants.{Over}
-use Rattle.cell_words.specs.Layout.{cells, all_outcomes, outcome_at, IsPartial}
-use Rattle.cell_words.specs.Levels.{cells_to, level_after, table_to}
-use Rattle.cell_words.specs.LevelSeats.{IsFilling, IsFiller}
+use Rattle.amp_terms.proofs.OutcomeLemmas.{length-all}
+use Rattle.cell_words.proofs.Names.{cases_lt, length-map, get_or_default, Planning, tensors_of, Outcome, Over, cells, all_outcomes, outcome_at, cells_to, IsFilling, IsFiller}
+use Rattle.cell_words.specs.Layout.{IsPartial}
+use Rattle.cell_words.specs.Levels.{level_after, table_to}
 use Rattle.cell_words.specs.declared.frontier.Frontier.{Frontier}
 use Rattle.cell_words.specs.declared.frontier.FillSeat.{FillSeat}
-use Rattle.amp_terms.proofs.OutcomeLemmas.{length-all}
 use Rattle.cell_words.proofs.LevelSteps.{cells_grow}
 use Rattle.cell_words.proofs.LevelLemmas.{level-inside, all-levels}
 
@@ -39,6 +34,11 @@ filled-count b n f h filling = let l : length f.outcomes.items ≡ n = ap length
 -- between calls the outcomes that are there are those of the published levels
 pub published-count : (b : Frontier) (f : FillSeat) → f.published ≤ b.plan.bound → IsFiller b f → vec_len f.outcomes ≡ cells_to b.plan f.published
 published-count b f h filler = filled-count b (cells_to b.plan f.published) f (level-inside b.plan f.published h) filler
+
+-- so many outcomes the filler has
+pub many : (b : Frontier) (f : FillSeat) (l : List Outcome) → IsFiller b f → l ≡ f.outcomes.items → length l ≡ cells_to b.plan f.published
+many b f l filler is =
+    ap length (is ∙ filler.outcomes) ∙ length-taken b.plan (cells_to b.plan f.published) (level-inside b.plan f.published (let e = filler.of.3 in omega (arith, filler.published, e)))
 
 pub refilled : (b : Frontier) (n m : ℕ) (f : FillSeat) → n ≡ m → IsFilling b n f → IsFilling b m f
 refilled b n m f e filling = subst (λ k. IsFilling b k f) e filling

@@ -1,22 +1,12 @@
 -- The portions of seats, gathered into one view.
-use Rattle.std.proofs.Common.{◌≡◌, ℕ, zero, suc, ◌<◌, List, [], ◌∷◌, ◌++◌, length, take, set, get_or, refl, sym, ap, ap₂, ◌∙◌, subst, arith, Bool, true, false, ◌||◌, Option, Some, None, length-append, length-take, length-set, get_or-set_other, get_or-set_same}
+use Rattle.std.proofs.Common.{get_or-take, ◌≡◌, ℕ, suc, ◌<◌, List, [], ◌∷◌, ◌++◌, length, take, set, get_or, refl, sym, ap, ap₂, ◌∙◌, subst, arith, true, Option, Some, None, length-append, length-take, length-set, get_or-set_other, get_or-set_same}
 use Rattle.std.proofs.Math.ListN.{get_or-append}
 use Rattle.std.proofs.Math.Seq.{get_or-append_seam}
-use mathlib.Core.Logic.{dite}
-use native.Mathlib.Decide.{ℕ_discrete}
-use Rattle.atomic_table.specs.declared.shared.Seat.{Seat}
-use Rattle.amp_plan.specs.Plans.{Planning}
-use Rattle.amp_plan.specs.Needs.{has}
+use Rattle.cell_words.proofs.Names.{dite, ℕ_discrete, Seat, Planning, has, IsToken, HasToken, IsResting, IsHolding, IsSeatOf, view_in, view_of, IsReady, AreTaken, IsGathered, Portion, Countdown, CountSeat, View, get_or_default}
 use Rattle.cell_words.specs.Countdown.{joined}
-use Rattle.cell_words.specs.Seats.{IsToken, HasToken, IsResting, IsHolding, IsSeatOf, view_in, view_of}
-use Rattle.cell_words.specs.Deals.{IsReady, AreTaken, IsGathered}
-use Rattle.cell_words.specs.declared.view.Portion.{Portion}
-use Rattle.cell_words.specs.declared.view.View.{View}
-use Rattle.cell_words.specs.declared.countdown.Countdown.{Countdown}
-use Rattle.cell_words.specs.declared.countdown.CountSeat.{CountSeat}
 use Rattle.cell_words.proofs.StepLemmas.{has_append}
-use Rattle.cell_words.proofs.DealLemmas.{same_default}
-use Rattle.cell_words.proofs.PartLemmas as parts
+use Rattle.std.proofs.lemmas.Bool as bool
+use Rattle.amp_plan.proofs.RowLemmas.{has-append}
 
 -- The one portion of a seat that holds nothing.
 pub record HasPortion (b : Countdown) (s : CountSeat) (x : Seat (Unit {0}) View) : Type 0 where
@@ -36,18 +26,8 @@ portion_of b s x is h free =
       ready = record { number = refl; finished = rest.done.finished; done = rest.done.ranks; room = rest.room; held = free };
     }
 
-at_take : {A : Type 0} (xs : List A) (n j : ℕ) (d : A) → j < n → get_or (take n xs) j d ≡ get_or xs j d
-at_take xs zero j d l = absurd (omega arith)
-at_take [] (suc n) j d l = refl
-at_take (x ∷ xs) (suc n) zero d l = refl
-at_take (x ∷ xs) (suc n) (suc j) d l = at_take xs n j d (omega arith)
-
 or_right : (r : ℕ) (xs ys : List ℕ) → has r ys ≡ true → has r (xs ++ ys) ≡ true
-or_right r xs ys e = parts.has_append r xs ys ∙ ap (λ c. has r xs || c) e ∙ or_true (has r xs)
-  where
-    or_true : (c : Bool) → c || true ≡ true
-    or_true true = refl
-    or_true false = refl
+or_right r xs ys e = has-append r xs ys ∙ bool.or_right (has r xs) (has r ys) e
 
 -- one portion more
 pub gather_more : (p : Planning) (ss : List CountSeat) (k : ℕ) (v u : View) (x : CountSeat) (q : Portion) → k < length ss → IsGathered p (take k ss) v → u.portions ≡ q ∷ [] → IsReady p q (get_or ss k x)
@@ -68,10 +48,10 @@ gather_more p ss k v u x q low h alone ready seen = record {
     many = h.many ∙ before
 
     at : (j : ℕ) (d : CountSeat) → j ≡ k → get_or (take (suc k) ss) j d ≡ get_or ss k x
-    at j d e = at_take ss (suc k) j d (omega arith) ∙ ap (λ i. get_or ss i d) e ∙ same_default ss k d x low
+    at j d e = get_or-take (suc k) ss j d (omega arith) ∙ ap (λ i. get_or ss i d) e ∙ get_or_default ss k d x low
 
     under : (j : ℕ) (d : CountSeat) → j < k → get_or (take (suc k) ss) j d ≡ get_or (take k ss) j d
-    under j d l = at_take ss (suc k) j d (omega arith) ∙ sym (at_take ss k j d l)
+    under j d l = get_or-take (suc k) ss j d (omega arith) ∙ sym (get_or-take k ss j d l)
 
     by : (j : ℕ) (r : Portion) (d : CountSeat) → j < suc k → Dec (j ≡ k) → IsReady p (get_or (v.portions ++ u.portions) j r) (get_or (take (suc k) ss) j d)
     by j r d l (yes e) = subst (λ (z : Portion × CountSeat). IsReady p z.0 z.1) (λ i. (sym here i, sym (at j d e) i)) ready
@@ -97,7 +77,7 @@ placed ss k x y = set ss k (record { place = y; number = (get_or ss k x).number;
 pub same_standing : {A : Type 0} (f : CountSeat → A) (ss : List CountSeat) (k j : ℕ) (x d : CountSeat) (y : Option (Seat (Unit {0}) View)) → j < length ss
     → ((s : CountSeat) → f (record { place = y; number = s.number; held = s.held; done = s.done }) ≡ f s) → f (get_or (placed ss k x y) j d) ≡ f (get_or ss j d)
 same_standing f ss k j x d y l same = dite (ℕ_discrete j k)
-    (λ (e : j ≡ k). ap (λ i. f (get_or (placed ss k x y) i d)) e ∙ ap f (get_or-set_same ss k _ d (omega arith)) ∙ same (get_or ss k x) ∙ ap f (same_default ss k x d (omega arith)) ∙ ap (λ i. f (get_or ss i d)) (sym e))
+    (λ (e : j ≡ k). ap (λ i. f (get_or (placed ss k x y) i d)) e ∙ ap f (get_or-set_same ss k _ d (omega arith)) ∙ same (get_or ss k x) ∙ ap f (get_or_default ss k x d (omega arith)) ∙ ap (λ i. f (get_or ss i d)) (sym e))
     (λ n. ap f (get_or-set_other ss k j _ d n))
 
 pub taken_more : (old ss : List CountSeat) (k : ℕ) (x : CountSeat) (y : Option (Seat (Unit {0}) View)) → AreTaken old ss → AreTaken old (placed ss k x y)

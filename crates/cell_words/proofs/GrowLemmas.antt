@@ -1,14 +1,9 @@
 -- A greater bound keeps the outcomes of ranks, so a table is carried over to the grown plan.
-use Rattle.std.proofs.Common.{◌≡◌, ℕ, zero, suc, ◌+◌, ◌<◌, ◌≤◌, true, List, [], ◌∷◌, ◌++◌, map, length, get_or, Option, Some, None, inl, inr, refl, sym, ap, ap₂, ◌∙◌, subst, arith, append_assoc, length-append}
+use Rattle.std.proofs.Common.{◌≡◌, ℕ, zero, suc, ◌<◌, ◌≤◌, true, List, [], ◌∷◌, ◌++◌, map, length, get_or, Option, Some, None, inl, inr, refl, sym, ap, ap₂, ◌∙◌, subst, arith, length-append}
 use Rattle.std.proofs.Math.ListN.{get_or-append}
-use Rattle.std.specs.Option.{is_some}
-use Rattle.airy_math.specs.Keys.{Key, head_or, remove}
-use Rattle.airy_math.specs.Levels.{LevelsLaw}
-use Rattle.airy_math.specs.NeedsFirst.{NeedsLaw}
 use Rattle.airy_math.specs.Obtained.{◌⊛◌, obtained_from}
 use Rattle.airy_math.specs.Planned.{planned, IsPlanned}
 use Rattle.airy_math.specs.Ranks.{place_of, no_key, PlanLaw, RanksLaw}
-use Rattle.airy_math.specs.Ranks as ranks
 use Rattle.airy_math.specs.Rational.{ℚ}
 use Rattle.airy_math.specs.RationalLaws.{0ℚ}
 use Rattle.airy_math.specs.Sums.{each}
@@ -17,27 +12,14 @@ use Rattle.airy_math.specs.Terms.{Term, Alone, Once, Joined, Twice, terms, named
 use Rattle.airy_math.proofs.NeedsLaw.{needs_first}
 use Rattle.airy_math.proofs.PlanOrderLaw.{levels}
 use Rattle.airy_math.proofs.RankLaw.{plan_law, ranks_in_order}
-use Rattle.amp_plan.specs.Plans.{Planning, tensors_of, keys_of, key_at}
-use Rattle.amp_plan.specs.Needs.{has, needs_at, KeepsRanks}
 use Rattle.amp_plan.proofs.GrowLemmas.{keeps_ranks, planned-split}
-use Rattle.amp_terms.specs.declared.Outcome.{Outcome}
-use Rattle.amp_terms.specs.declared.Outcome.TheVariants.{Over}
 use Rattle.amp_terms.specs.Outcomes.{outcomes, outcomes_after, outcome_of, outcome_from, outcome_at, least_blocked, ranks_named, value_in, value_or_zero}
 use Rattle.amp_terms.proofs.NamedLemmas.{least_stands}
 use Rattle.amp_terms.proofs.OutcomeLemmas.{length-outcomes}
-use Rattle.cell_words.specs.Layout.{cells}
-use Rattle.cell_words.specs.Resuming.{carries, CanResume, GrownTablesLaw}
-
-stands-left : (k : Key) (xs ys : List Key) → StandsIn k xs → StandsIn k (xs ++ ys)
-unfolding StandsIn
-stands-left k [] ys h = absurd h
-stands-left k (x ∷ xs) ys (inl e) = inl e
-stands-left k (x ∷ xs) ys (inr h) = inr (stands-left k xs ys h)
-
-stands-right : (k : Key) (xs ys : List Key) → StandsIn k ys → StandsIn k (xs ++ ys)
-unfolding StandsIn
-stands-right k [] ys h = h
-stands-right k (x ∷ xs) ys h = inr (stands-right k xs ys h)
+use Rattle.amp_plan.proofs.NeedLemmas.{stands-left, stands-right}
+use Rattle.cell_words.proofs.Names.{Key, head_or, remove, tensors_of, keys_of, has, Outcome, Over, carries}
+use Rattle.cell_words.specs.Resuming.{GrownTablesLaw}
+use Rattle.airy_math.specs.Ranks as ranks
 
 -- ---- terms whose keys have the same values and the same places
 

@@ -1,18 +1,13 @@
 -- Levels of a plan: which ranks they have, and what a rank rests on.
-use Rattle.std.proofs.Common.{◌≡◌, ℕ, ◌+◌, ◌*◌, ◌<◌, ◌≤◌, inl, inr, refl, ap, ap₂, subst, arith, length}
-use Rattle.std.specs.Prelude.{◌↔◌}
+use Rattle.std.proofs.Common.{◌≡◌, ℕ, ◌+◌, ◌*◌, ◌<◌, ◌≤◌, inl, inr, refl, ap, ap₂, subst, arith, length, ◌↔◌}
 use Rattle.airy_math.specs.Planned.{IsPlanned}
-use Rattle.airy_math.specs.Levels.{euler_of}
 use Rattle.airy_math.specs.NeedsFirst.{NeedsLaw}
 use Rattle.airy_math.specs.Ranks.{PlanLaw, no_key}
-use Rattle.airy_math.specs.Ranks as ranks
 use Rattle.airy_math.proofs.PlanOrderLaw.{levels}
-use Rattle.amp_plan.specs.Plans.{Planning, tensors_of, keys_of, key_at}
+use Rattle.cell_words.proofs.Names.{euler_of, Planning, tensors_of, keys_of, key_at, word_of, cells, outcome_at, cells_to, value_word}
 use Rattle.cell_words.proofs.LevelSteps.{cells_grow}
-use Rattle.cell_words.specs.Words.{word_of}
-use Rattle.cell_words.specs.Layout.{cells, outcome_at}
 use Rattle.cell_words.specs.Looks.{Reaches}
-use Rattle.cell_words.specs.Levels.{cells_to, value_word}
+use Rattle.airy_math.specs.Ranks as ranks
 
 -- the ranks of the levels up to k are those of the keys with Euler numbers up to k
 pub level-ranks : (p : Planning) (k r : ℕ) → k ≤ p.bound → r < cells p → (r < cells_to p k) ↔ (euler_of (key_at p r) ≤ k)

@@ -1,23 +1,15 @@
 -- Each step keeps the rule.
-use Rattle.std.proofs.lemmas.Bool.{cases_lt}
-use Rattle.std.proofs.Common.{◌/◌, length-append, ◌≡◌, ◌≢◌, ◌⊎◌, ℕ, zero, suc, ◌+◌, ◌*◌, ◌<◌, ◌≤◌, List, [], ◌∷◌, length, set, get_or, refl, sym, ap, ◌∙◌, subst, ⊎_elim, arith, length-set, get_or-set_other, get_or-set_same, le_refl, inl, inr}
-use Rattle.std.proofs.lemmas.List.{set-get_or}
-use Rattle.std.specs.Prelude.{slice_index}
-use mathlib.Core.Option.{none, some, some-ne-none, some-injective}
-use lib.ListN.{get_elem?}
-use native.Mathlib.Decide.{ℕ_discrete}
-use Rattle.atomic_table.specs.Table.{step, keeps, Allows, Splits, Joins}
+use Rattle.std.proofs.Common.{◌/◌, length-append, ◌≡◌, ◌≢◌, ◌⊎◌, ℕ, zero, suc, ◌+◌, ◌*◌, ◌<◌, ◌≤◌, List, [], ◌∷◌, length, set, get_or, refl, sym, ap, ◌∙◌, subst, ⊎_elim, arith, length-set, get_or-set_other, get_or-set_same, le_refl, inl, inr, slice_index}
 use Rattle.atomic_table.proofs.Lists.{at_set, at_snoc, at_longer, set_here, set_else, set_again}
 use Rattle.airy_math.specs.Planned.{planned}
 use Rattle.airy_math.specs.Levels.{level}
 use Rattle.airy_math.proofs.PlanOrderLaw.{levels}
-use Rattle.amp_plan.specs.Plans.{Planning, tensors_of}
-use Rattle.cell_words.specs.Words.{IsSized}
-use Rattle.cell_words.specs.Layout.{cells, outcome_at}
+use Rattle.cell_words.proofs.Names.{cases_lt, set-get_or, none, some, some-ne-none, some-injective, get_elem?, ℕ_discrete, step, keeps, Allows, Splits, Joins, Planning, tensors_of, IsSized, cells, outcome_at, cells_to, value_word}
 use Rattle.cell_words.specs.declared.level_view.View.{View}
 use Rattle.cell_words.specs.declared.level_view.Role.{Role}
 use Rattle.cell_words.specs.declared.level_view.Role.TheVariants.{Filler, Asker, Spent}
-use Rattle.cell_words.specs.Levels.{cells_to, value_word, Lawful, Keeps, Fits, FitsAs, settled, looked, wrote, raised, new_asker, spent, joined, joined_as, Looked, Wrote, Raised, Reads, M, first_view}
+use Rattle.cell_words.proofs.StepLemmas.{short}
+use Rattle.cell_words.specs.Levels.{Lawful, Keeps, Fits, FitsAs, settled, looked, wrote, raised, new_asker, spent, joined, joined_as, Looked, Wrote, Raised, Reads, M, first_view}
 
 -- the levels only grow
 pub cells_grow : (p : Planning) (a b : ℕ) → a ≤ b → cells_to p a ≤ cells_to p b
@@ -124,11 +116,6 @@ filler_moves words views h id v w new at role role' plan le counted stored long 
       each = fits_set id w views id w (λ j u apart e. other j u apart e same is (h.each j u e)) (subst (λ r. FitsAs r id w id w) (sym role') refl);
     }
   where
-    short : (l : List View) (i : ℕ) (x : View) → get_elem? l i ≡ some x → i < length l
-    short [] i x e = absurd (some-ne-none x (sym e))
-    short (y ∷ l) zero x e = omega arith
-    short (y ∷ l) (suc i) x e = let r = short l i x e in omega arith
-
     other_as : (r : Role) (j : ℕ) (u : View) → j ≢ id → id ≡ h.filler → h.front ≡ v → FitsAs r h.filler h.front j u → FitsAs r id w j u
     other_as Filler j u apart same is f = absurd (apart (f ∙ sym same))
     other_as Asker j u apart same is f = (f.0 ∙ ap (λ (x : View). x.plan) is ∙ sym plan, (let l = f.1 in let k = ap (λ (x : View). x.count) is in omega arith))

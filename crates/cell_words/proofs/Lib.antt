@@ -1,3 +1,4 @@
+pub mod Names
 pub mod WordLemmas
 pub mod BookLemmas
 pub mod PlanFacts

@@ -1,22 +1,7 @@
 -- The board at the start.
-use Rattle.std.proofs.Common.{◌≡◌, ◌≢◌, ◌⊎◌, ℕ, zero, suc, ◌+◌, ◌<◌, ◌≤◌, List, [], ◌∷◌, ◌++◌, length, map, take, refl, sym, ap, ap₂, ◌∙◌, subst, arith, inl, inr, Bool, true, false, true≢false, not, ◌&&◌, ◌||◌, cond, nat_eq, nat_lt, All, eq-eqb, ne_eqb, eqb-true, lt-ltb, le-ltb, Some, None, get_or, append-nil, lt_of_not-le}
-use mathlib.Core.Logic.{dite}
-use mathlib.Core.Option.{some, some-ne-none, some-injective}
-use native.Mathlib.Decide.{ℕ_discrete, dec_le}
-use lib.ListN.{get_elem?}
-use Rattle.amp_plan.specs.Plans.{Planning}
-use Rattle.amp_plan.specs.Needs.{has, needs_at, dependents_at}
-use Rattle.amp_plan.specs.Rows.{AreDistinct}
-use Rattle.cell_words.specs.Layout.{cells, code_of, IsPlanned}
-use Rattle.cell_words.specs.declared.view.Portion.{Portion}
-use Rattle.cell_words.specs.declared.view.View.{View}
-use Rattle.cell_words.specs.Countdown.{acts_of, act_among, acts_for, numbers_of, Book, signs, signed_in, count_of, unsigned, state_of, written_of, IsFilled, IsActIn, Cell, Fits, Lawful, AreCarried, IsOpening, empty_from, carried_act, first_portions, first_view}
-use Rattle.cell_words.proofs.BookLemmas.{when, unless}
-
--- a decided test
-decide : (c : Bool) → (c ≡ true) ⊎ (c ≡ false)
-decide true = inl refl
-decide false = inr refl
+use Rattle.std.proofs.Common.{take_all, ◌≡◌, ◌≢◌, ◌⊎◌, ℕ, zero, suc, ◌+◌, ◌<◌, ◌≤◌, List, [], ◌∷◌, ◌++◌, length, map, refl, sym, ap, ap₂, ◌∙◌, subst, arith, inl, inr, Bool, true, false, true≢false, not, ◌||◌, cond, nat_eq, nat_lt, All, eq-eqb, ne_eqb, eqb-true, lt-ltb, le-ltb, Some, None, get_or, append-nil, lt_of_not-le}
+use Rattle.cell_words.proofs.Names.{or-true, and-true, dite, some, some-ne-none, some-injective, ℕ_discrete, dec_le, get_elem?, Planning, has, needs_at, dependents_at, AreDistinct, cells, code_of, IsPlanned, Portion, acts_of, act_among, acts_for, numbers_of, Book, signs, signed_in, count_of, unsigned, state_of, written_of, IsFilled, IsActIn, Cell, AreCarried, IsOpening, carried_act, first_portions, View, when, unless, cases_Bool}
+use Rattle.cell_words.specs.Countdown.{Fits, Lawful, empty_from, first_view}
 
 -- ---- numbers
 
@@ -63,52 +48,36 @@ carried_book p carried r = cond (has r carried) (Some (carried_act p r)) None
 among_carried : (p : Planning) (r : ℕ) (carried : List ℕ) → act_among r (map (carried_act p) carried) ≡ carried_book p carried r
 unfolding has
 among_carried p r [] = refl
-among_carried p r (x ∷ xs) = by (nat_eq r x) refl (among_carried p r xs)
-  where
-    by : (c : Bool) → nat_eq r x ≡ c → act_among r (map (carried_act p) xs) ≡ carried_book p xs r → cond c (Some (carried_act p x)) (act_among r (map (carried_act p) xs)) ≡ cond (c || has r xs) (Some (carried_act p r)) None
-    by true e h = ap (λ k. Some (carried_act p k)) (sym (eqb-true r x e))
-    by false e h = h
+among_carried p r (x ∷ xs) =
+    (elim (nat_eq r x) as (λ c. nat_eq r x ≡ c → cond c (Some (carried_act p x)) (act_among r (map (carried_act p) xs)) ≡ cond (c || has r xs) (Some (carried_act p r)) None)
+    [ true ↦ λ e. ap (λ k. Some (carried_act p k)) (sym (eqb-true r x e)) | false ↦ λ _. among_carried p r xs ]) refl
 
 none_carried : (p : Planning) (r : ℕ) (xs : List ℕ) → has r xs ≡ false → acts_for r (map (carried_act p) xs) ≡ 0
 unfolding has
 none_carried p r [] e = refl
-none_carried p r (x ∷ xs) e = by (nat_eq r x) refl e (none_carried p r xs)
-  where
-    by : (c : Bool) → nat_eq r x ≡ c → c || has r xs ≡ false → (has r xs ≡ false → acts_for r (map (carried_act p) xs) ≡ 0) → cond c (suc (acts_for r (map (carried_act p) xs))) (acts_for r (map (carried_act p) xs)) ≡ 0
-    by true is e h = absurd (true≢false e)
-    by false is e h = h e
+none_carried p r (x ∷ xs) e =
+    let n : ℕ = acts_for r (map (carried_act p) xs) in
+    (elim (nat_eq r x) as (λ c. c || has r xs ≡ false → cond c (suc n) n ≡ 0) [ true ↦ λ e. absurd (true≢false e) | false ↦ none_carried p r xs ]) e
 
 once_carried : (p : Planning) (r : ℕ) (xs : List ℕ) → AreDistinct xs → acts_for r (map (carried_act p) xs) ≤ 1
 unfolding AreDistinct
 once_carried p r [] d = omega arith
-once_carried p r (x ∷ xs) d = by (nat_eq r x) refl (once_carried p r xs d.1)
-  where
-    by : (c : Bool) → nat_eq r x ≡ c → acts_for r (map (carried_act p) xs) ≤ 1 → cond c (suc (acts_for r (map (carried_act p) xs))) (acts_for r (map (carried_act p) xs)) ≤ 1
-    by true e h = let z = none_carried p r xs (ap (λ k. has k xs) (eqb-true r x e) ∙ d.0) in omega arith
-    by false e h = h
+once_carried p r (x ∷ xs) d =
+    let n : ℕ = acts_for r (map (carried_act p) xs) in
+    (elim (nat_eq r x) as (λ c. nat_eq r x ≡ c → cond c (suc n) n ≤ 1)
+    [ true ↦ λ e. (let z = none_carried p r xs (ap (λ k. has k xs) (eqb-true r x e) ∙ d.0) in omega (arith, z)) | false ↦ λ _. once_carried p r xs d.1 ]) refl
 
 -- ---- signatures
 
-pub take_all : (xs : List ℕ) → take (length xs) xs ≡ xs
-take_all [] = refl
-take_all (x ∷ xs) = ap (λ l. x ∷ l) (take_all xs)
-
 -- of the needs of a rank the carried ones have signed it
 carried_signs : (p : Planning) (carried : List ℕ) (r q : ℕ) → IsPlanned p → r < cells p → has q (needs_at p r) ≡ true → signs p (carried_book p carried) q r ≡ has q carried
-carried_signs p carried r q planned low need = by (has q carried)
-  where
-    by : (c : Bool) → signed_in p (cond c (Some (carried_act p q)) None) q r ≡ c
-    by true = ap (has r) (take_all (dependents_at p q)) ∙ sym (planned.converse q r (planned.needs_low q r need) low) ∙ need
-    by false = refl
+carried_signs p carried r q planned low need = elim (has q carried) as (λ c. signed_in p (cond c (Some (carried_act p q)) None) q r ≡ c)
+    [ true ↦ ap (has r) (take_all (length (dependents_at p q)) (dependents_at p q) (omega arith)) ∙ sym (planned.converse q r (planned.needs_low q r need) low) ∙ need | false ↦ refl ]
 
 pub count_in : (f g : ℕ → Bool) (xs : List ℕ) → ((q : ℕ) → has q xs ≡ true → f q ≡ g q) → count_of f xs ≡ count_of g xs
 unfolding has
 count_in f g [] e = refl
-count_in f g (x ∷ xs) e = ap₂ (λ c n. cond c (suc n) n) (e x (ap (λ c. c || has x xs) (eq-eqb x x refl))) (count_in f g xs (λ q h. e q (ap (λ c. nat_eq q x || c) h ∙ or_true (nat_eq q x))))
-  where
-    or_true : (c : Bool) → c || true ≡ true
-    or_true true = refl
-    or_true false = refl
+count_in f g (x ∷ xs) e = ap₂ (λ c n. cond c (suc n) n) (e x (ap (λ c. c || has x xs) (eq-eqb x x refl))) (count_in f g xs (λ q h. e q (ap (λ c. nat_eq q x || c) h ∙ or-true (nat_eq q x))))
 
 -- ---- the rule
 
@@ -116,18 +85,14 @@ all_has : (P : ℕ → Type 0) (xs : List ℕ) → ((r : ℕ) → has r xs ≡ t
 unfolding has
 all_has P [] h k d l = absurd (omega (arith, l))
 all_has P (x ∷ xs) h zero d l = h x (ap (λ c. c || has x xs) (eq-eqb x x refl))
-all_has P (x ∷ xs) h (suc k) d l = all_has P xs (λ r e. h r (ap (λ c. nat_eq r x || c) e ∙ or_true (nat_eq r x))) k d (omega arith)
-  where
-    or_true : (c : Bool) → c || true ≡ true
-    or_true true = refl
-    or_true false = refl
+all_has P (x ∷ xs) h (suc k) d l = all_has P xs (λ r e. h r (ap (λ c. nat_eq r x || c) e ∙ or-true (nat_eq r x))) k d (omega arith)
 
 module _ (p : Planning) (n : ℕ) (carried words : List ℕ) (planned : IsPlanned p) (some_seat : 0 < n) (from : AreCarried p carried) (opened : IsOpening p carried words) where
   book_of : (r : ℕ) → has r carried ≡ true → carried_book p carried r ≡ Some (carried_act p r)
   book_of r e = when (has r carried) (Some (carried_act p r)) None e
 
   opening_cell : (r : ℕ) → r < cells p → Cell p words (carried_book p carried) r
-  opening_cell r low = by (decide (has r carried))
+  opening_cell r low = by (cases_Bool (has r carried))
     where
       by : (has r carried ≡ true) ⊎ (has r carried ≡ false) → Cell p words (carried_book p carried) r
       by (inl e) = record {
@@ -155,15 +120,11 @@ module _ (p : Planning) (n : ℕ) (carried words : List ℕ) (planned : IsPlanne
   opening_fits zero u e = subst (Fits p n (carried_book p carried) (λ _. 0) (λ _. 0) 0) (some-injective _ _ e) record {
     plan = λ _. (refl, refl);
     acts = λ r. ap (act_among r) (first_acts p n carried some_seat) ∙ among_carried p r carried;
-    numbers = λ k. ap (has k) (first_numbers p n carried) ∙ numbered k n ∙ sym (and_true (nat_lt k n));
+    numbers = λ k. ap (has k) (first_numbers p n carried) ∙ numbered k n ∙ sym (and-true (nat_lt k n));
     numbers_once = subst AreDistinct (sym (first_numbers p n carried)) (distinct_from 0 n);
     once = λ r. subst (λ as'. acts_for r as' ≤ 1) (sym (first_acts p n carried some_seat)) (once_carried p r carried from.distinct);
     seen = all_has (λ r. IsFilled (carried_book p carried r)) carried (λ r e. subst IsFilled (sym (book_of r e)) refl);
   }
-    where
-      and_true : (c : Bool) → c && true ≡ c
-      and_true true = refl
-      and_true false = refl
   opening_fits (suc j) u e = absurd (some-ne-none u (sym e))
 
   pub begins : Lawful words (first_view p n carried ∷ [])
@@ -175,7 +136,7 @@ module _ (p : Planning) (n : ℕ) (carried words : List ℕ) (planned : IsPlanne
     home = λ _. 0;
     planned = planned;
     long = opened.long;
-    inside = λ r above. by r (decide (has r carried)) above;
+    inside = λ r above. by r (cases_Bool (has r carried)) above;
     cell = opening_cell;
     owned = λ r a e. omega arith;
     housed = λ k l. omega arith;

@@ -1,21 +1,14 @@
 -- Views are cut in two, and put together.
-use Rattle.std.proofs.Common.{◌≡◌, ◌≢◌, ◌⊎◌, ℕ, zero, suc, ◌+◌, ◌<◌, ◌≤◌, List, [], ◌∷◌, ◌++◌, length, set, refl, sym, ap, ◌∙◌, subst, ⊎_elim, arith, inl, inr, Bool, true, false, true≢false, ◌&&◌, ◌||◌, cond, nat_eq, nat_lt, eq-eqb, ne_eqb, eqb-true, Option, Some, None, length-set, length-append, ltb-true, append_assoc}
-use Rattle.std.proofs.lemmas.List.{map-append}
+use Rattle.std.proofs.Common.{is_some, ◌≡◌, ◌≢◌, ◌⊎◌, ℕ, zero, suc, ◌+◌, ◌<◌, ◌≤◌, List, [], ◌∷◌, ◌++◌, length, set, refl, sym, ap, ◌∙◌, subst, ⊎_elim, arith, inl, inr, Bool, true, false, true≢false, ◌&&◌, ◌||◌, cond, nat_eq, nat_lt, eq-eqb, ne_eqb, eqb-true, Option, Some, None, length-set, length-append, ltb-true, append_assoc}
 use Rattle.std.proofs.lemmas.List.Elements.{All-append}
-use mathlib.Core.Logic.{dite}
-use mathlib.Core.Option.{some, some-ne-none, some-injective}
-use native.Mathlib.Decide.{ℕ_discrete}
-use lib.ListN.{get_elem?}
-use Rattle.atomic_table.specs.Table.{Splits, Joins}
 use Rattle.atomic_table.proofs.Lists.{at_set}
-use Rattle.amp_plan.specs.Needs.{has}
-use Rattle.amp_plan.specs.Rows.{AreDistinct}
-use Rattle.cell_words.specs.declared.view.Act.{Act}
-use Rattle.cell_words.specs.declared.view.Portion.{Portion}
-use Rattle.cell_words.specs.declared.view.View.{View}
-use Rattle.cell_words.specs.Countdown.{acts_of, act_among, act_in, acts_for, numbers_of, IsFilled, Fits, Keeps, left_part, right_part, joined, spent, head_of, tail_of}
-use Rattle.cell_words.proofs.BookLemmas.{when, unless, first_some, among_append, acts_for_append, acts_for_none, none_acts}
-use Rattle.cell_words.proofs.StepLemmas.{short}
+use Rattle.cell_words.proofs.Names.{none-some, cases_Bool, and_parts, or_right, or-true, or-false, and-false, false_from_ne_true, map-append, some, some-ne-none, some-injective, get_elem?, Splits, Joins, has, AreDistinct, Act, Portion, acts_of, act_among, act_in, acts_for, numbers_of, IsFilled, left_part, right_part, head_of, tail_of, View, when, unless}
+use Rattle.cell_words.specs.Countdown.{Fits, Keeps, joined, spent}
+use Rattle.std.proofs.lemmas.Bool.{and_right, and_from}
+use Rattle.std.proofs.Math.Bool.{and-or_distrib_left}
+use Rattle.amp_plan.proofs.RowLemmas.{has-append}
+use Rattle.cell_words.proofs.BookLemmas.{has_none, has_some, first_some, among_append, acts_for_append, acts_for_none, none_acts}
+use Rattle.cell_words.proofs.StepLemmas.{short, none_both, cond_owner}
 
 at_end : {A : Type 0} (l : List A) (a b : A) (j : ℕ) → get_elem? (l ++ a ∷ []) j ≡ some b → (get_elem? l j ≡ some b) ⊎ ((j ≡ length l) × (a ≡ b))
 at_end [] a b zero e = inr (refl, some-injective a b e)
@@ -27,31 +20,14 @@ pub acts_append : (ps qs : List Portion) → acts_of (ps ++ qs) ≡ acts_of ps +
 acts_append [] qs = refl
 acts_append (p ∷ ps) qs = ap (λ l. p.acts ++ l) (acts_append ps qs) ∙ sym (append_assoc p.acts (acts_of ps) (acts_of qs))
 
-pub has_append : (x : ℕ) (xs ys : List ℕ) → has x (xs ++ ys) ≡ has x xs || has x ys
-unfolding has
-has_append x [] ys = refl
-has_append x (y ∷ xs) ys = ap (λ c. nat_eq x y || c) (has_append x xs ys) ∙ or_assoc (nat_eq x y) (has x xs) (has x ys)
-  where
-    or_assoc : (a b c : Bool) → a || (b || c) ≡ (a || b) || c
-    or_assoc true b c = refl
-    or_assoc false b c = refl
-
 -- numbers that two lists have apart
 distinct_append : (xs ys : List ℕ) → AreDistinct xs → AreDistinct ys → ((k : ℕ) → has k xs ≡ true → has k ys ≡ true → ⊥) → AreDistinct (xs ++ ys)
 unfolding AreDistinct has
 distinct_append [] ys d e apart = e
 distinct_append (x ∷ xs) ys d e apart = (
-  has_append x xs ys ∙ ap (λ c. c || has x ys) d.0 ∙ not_true (has x ys) (apart x (ap (λ c. c || has x xs) (eq-eqb x x refl))),
-  distinct_append xs ys d.1 e (λ k h l. apart k (ap (λ c. nat_eq k x || c) h ∙ or_true (nat_eq k x)) l),
+  has-append x xs ys ∙ ap (λ c. c || has x ys) d.0 ∙ false_from_ne_true (has x ys) (apart x (ap (λ c. c || has x xs) (eq-eqb x x refl))),
+  distinct_append xs ys d.1 e (λ k h l. apart k (ap (λ c. nat_eq k x || c) h ∙ or-true (nat_eq k x)) l),
 )
-  where
-    not_true : (c : Bool) → (c ≡ true → ⊥) → c ≡ false
-    not_true true g = absurd (g refl)
-    not_true false g = refl
-
-    or_true : (c : Bool) → c || true ≡ true
-    or_true true = refl
-    or_true false = refl
 
 nothing_twice : AreDistinct []
 unfolding AreDistinct
@@ -81,155 +57,8 @@ one_part : (k : ℕ) (xs ys : List Act) → acts_for k (xs ++ ys) ≤ 1 → (a :
 one_part k xs ys once a is = acts_for_none k ys (zero_times (acts_for k xs) refl)
   where
     zero_times : (n : ℕ) → acts_for k xs ≡ n → acts_for k ys ≡ 0
-    zero_times zero e = absurd (none_some (sym (acts_for_none k xs e) ∙ is))
-      where
-        none_some : None ≡ Some a → ⊥
-        none_some e = cc
+    zero_times zero e = absurd (none-some a (sym (acts_for_none k xs e) ∙ is))
     zero_times (suc n) e = let s = acts_for_append k xs ys in omega arith
-
--- where a view's acts stand, once a part of it has gone to the view `other`
-moved_owner : Option Act → ℕ → ℕ → ℕ
-moved_owner None other o = o
-moved_owner (Some a) other o = other
-
--- joined views: who owns what the other had
-taken_over : (ℕ → ℕ) → ℕ → ℕ → ℕ → ℕ
-taken_over o other id k = cond (nat_eq (o k) other) id (o k)
-
-mine_now : {A : Type 0} (o : ℕ → ℕ) (other id k : ℕ) (x y : A) → other ≢ id → cond (nat_eq (taken_over o other id k) id) x y ≡ cond (nat_eq (o k) id || nat_eq (o k) other) x y
-unfolding taken_over
-mine_now o other id k x y apart = dite (ℕ_discrete (o k) other)
-    (λ (e : o k ≡ other). ap (λ n. cond (nat_eq n id) x y) (when (nat_eq (o k) other) id (o k) (eq-eqb (o k) other e)) ∙ when (nat_eq id id) x y (eq-eqb id id refl)
-    ∙ sym (when (nat_eq (o k) id || nat_eq (o k) other) x y (ap (λ c. nat_eq (o k) id || c) (eq-eqb (o k) other e) ∙ or_true (nat_eq (o k) id))))
-    (λ n. ap (λ m. cond (nat_eq m id) x y) (unless (nat_eq (o k) other) id (o k) (ne_eqb (o k) other n)) ∙ ap (λ c. cond c x y) (sym (ap (λ c. nat_eq (o k) id || c) (ne_eqb (o k) other n) ∙ or_false (nat_eq (o k) id))))
-  where
-    or_true : (c : Bool) → c || true ≡ true
-    or_true true = refl
-    or_true false = refl
-
-    or_false : (c : Bool) → c || false ≡ c
-    or_false true = refl
-    or_false false = refl
-
-others_now : {A : Type 0} (o : ℕ → ℕ) (other id j k : ℕ) (x y : A) → j ≢ other → j ≢ id → cond (nat_eq (taken_over o other id k) j) x y ≡ cond (nat_eq (o k) j) x y
-unfolding taken_over
-others_now o other id j k x y a b = dite (ℕ_discrete (o k) other)
-    (λ (e : o k ≡ other). unless (nat_eq (taken_over o other id k) j) x y (ap (λ n. nat_eq n j) (when (nat_eq (o k) other) id (o k) (eq-eqb (o k) other e)) ∙ ne_eqb id j (λ c. b (sym c)))
-    ∙ sym (unless (nat_eq (o k) j) x y (ne_eqb (o k) j (λ c. a (sym c ∙ e)))))
-    (λ n. ap (λ m. cond (nat_eq m j) x y) (unless (nat_eq (o k) other) id (o k) (ne_eqb (o k) other n)))
-
-spent_now : (o : ℕ → ℕ) (other id k : ℕ) → other ≢ id → nat_eq (taken_over o other id k) other ≡ false
-unfolding taken_over
-spent_now o other id k apart = dite (ℕ_discrete (o k) other)
-    (λ (e : o k ≡ other). ap (λ n. nat_eq n other) (when (nat_eq (o k) other) id (o k) (eq-eqb (o k) other e)) ∙ ne_eqb id other (λ c. apart (sym c)))
-    (λ n. ap (λ m. nat_eq m other) (unless (nat_eq (o k) other) id (o k) (ne_eqb (o k) other n)) ∙ ne_eqb (o k) other n)
-
-within : (o : ℕ → ℕ) (other id k n : ℕ) → o k < n → id < n → taken_over o other id k < n
-unfolding taken_over
-within o other id k n low mine = by (nat_eq (o k) other)
-  where
-    by : (c : Bool) → cond c id (o k) < n
-    by true = mine
-    by false = low
-
-pub joins : (id : ℕ) (v : View) (other : ℕ) (u : View) → 0 < u.seats → 0 < v.seats → Joins Keeps id v other u (joined v u) spent
-unfolding has
-joins id v other u live' live s h at apart there =
-    let was : get_elem? s.views other ≡ some u = ⊎_elim (λ (x : (other ≡ id) × (joined v u ≡ u)). absurd (apart x.0)) (λ (x : (other ≢ id) × (get_elem? s.views other ≡ some u)). x.1) (at_set s.views id other (joined v u) u there) in
-    let f = h.each id v at in let g = h.each other u was in
-    let owner : ℕ → ℕ = taken_over h.owner other id in
-    let home : ℕ → ℕ = taken_over h.home other id in
-    let count : length (set (set s.views id (joined v u)) other spent) ≡ length s.views = length-set (set s.views id (joined v u)) other spent ∙ length-set s.views id (joined v u) in
-    let here : id < length s.views = short s.views id v at in
-    let both : Fits h.plan h.seats h.book owner home id (joined v u) = record {
-      plan = f.plan;
-      acts = λ k. ap (act_among k) (acts_append v.portions u.portions) ∙ among_append k (acts_of v.portions) (acts_of u.portions) ∙ ap (λ o. first_some o (act_in u k)) (f.acts k) ∙ ap (first_some (cond (nat_eq (h.owner k) id) (h.book k) None)) (g.acts k)
-          ∙ two (nat_eq (h.owner k) id) (nat_eq (h.owner k) other) (h.book k) (λ a b. apart (sym (eqb-true (h.owner k) other b) ∙ eqb-true (h.owner k) id a)) ∙ sym (mine_now h.owner other id k (h.book k) None apart);
-      numbers = λ k. ap (has k) (map-append (λ (p : Portion). p.number) v.portions u.portions) ∙ has_append k (numbers_of v.portions) (numbers_of u.portions) ∙ ap (λ c. c || has k (numbers_of u.portions)) (f.numbers k) ∙ ap (λ c. nat_lt k h.seats && nat_eq (h.home k) id || c) (g.numbers k)
-          ∙ spread (nat_lt k h.seats) (nat_eq (h.home k) id) (nat_eq (h.home k) other) ∙ ap (λ c. nat_lt k h.seats && c) (as_cond (nat_eq (h.home k) id || nat_eq (h.home k) other) ∙ sym (mine_now h.home other id k true false apart) ∙ sym (as_cond (nat_eq (home k) id)));
-      numbers_once = subst AreDistinct (sym (map-append (λ (p : Portion). p.number) v.portions u.portions)) (distinct_append (numbers_of v.portions) (numbers_of u.portions) f.numbers_once g.numbers_once
-          (λ k a b. apart (sym (home_of k other u g b) ∙ home_of k id v f a)));
-      once = λ k. subst (λ (l : List Act). acts_for k l ≤ 1) (sym (acts_append v.portions u.portions)) (subst (λ n. n ≤ 1) (sym (acts_for_append k (acts_of v.portions) (acts_of u.portions)))
-          (once_both (acts_for k (acts_of v.portions)) (acts_for k (acts_of u.portions)) (f.once k) (g.once k)
-          (λ a b. apart (sym (owner_of k other u g b) ∙ owner_of k id v f a))));
-      seen = All-append (λ r. IsFilled (h.book r)) v.seen u.seen f.seen g.seen;
-    } in
-    let gone : Fits h.plan h.seats h.book owner home other spent = record {
-      plan = λ live. absurd (omega (arith, live));
-      acts = λ k. sym (unless (nat_eq (owner k) other) (h.book k) None (spent_now h.owner other id k apart));
-      numbers = λ k. sym (ap (λ c. nat_lt k h.seats && c) (spent_now h.home other id k apart) ∙ and_false (nat_lt k h.seats));
-      numbers_once = tail_distinct [] nothing_twice;
-      once = λ k. omega arith;
-      seen = λ k d l. absurd (omega (arith, l));
-    } in record {
-      plan = h.plan;
-      seats = h.seats;
-      book = h.book;
-      owner = owner;
-      home = home;
-      planned = h.planned;
-      long = h.long;
-      inside = h.inside;
-      cell = h.cell;
-      owned = λ k a e. subst (λ n. owner k < n) (sym count) (within h.owner other id k (length s.views) (h.owned k a e) here);
-      housed = λ k l. subst (λ n. home k < n) (sym count) (within h.home other id k (length s.views) (h.housed k l) here);
-      each = λ j w e. ⊎_elim
-          (λ (x : (j ≡ other) × (spent ≡ w)). subst (λ (y : ℕ × View). Fits h.plan h.seats h.book owner home y.0 y.1) (λ i. (sym x.0 i, x.1 i)) gone)
-          (λ (x : (j ≢ other) × (get_elem? (set s.views id (joined v u)) j ≡ some w)). ⊎_elim
-          (λ (y : (j ≡ id) × (joined v u ≡ w)). subst (λ (z : ℕ × View). Fits h.plan h.seats h.book owner home z.0 z.1) (λ i. (sym y.0 i, y.1 i)) both)
-          (λ (y : (j ≢ id) × (get_elem? s.views j ≡ some w)). let o = h.each j w y.1 in record {
-            plan = o.plan;
-            acts = λ k. o.acts k ∙ sym (others_now h.owner other id j k (h.book k) None x.0 y.0);
-            numbers = λ k. o.numbers k ∙ ap (λ c. nat_lt k h.seats && c) (as_cond (nat_eq (h.home k) j) ∙ sym (others_now h.home other id j k true false x.0 y.0) ∙ sym (as_cond (nat_eq (home k) j)));
-            numbers_once = o.numbers_once;
-            once = o.once;
-            seen = o.seen;
-          })
-          (at_set s.views id j (joined v u) w x.1))
-          (at_set (set s.views id (joined v u)) other j spent w e);
-    }
-  where
-    two : (a b : Bool) (o : Option Act) → (a ≡ true → b ≡ true → ⊥) → first_some (cond a o None) (cond b o None) ≡ cond (a || b) o None
-    two true true o clash = absurd (clash refl refl)
-    two true false None clash = refl
-    two true false (Some a) clash = refl
-    two false true o clash = refl
-    two false false o clash = refl
-
-    as_cond : (c : Bool) → c ≡ cond c true false
-    as_cond true = refl
-    as_cond false = refl
-
-    and_false : (c : Bool) → c && false ≡ false
-    and_false true = refl
-    and_false false = refl
-
-    spread : (a b c : Bool) → (a && b) || (a && c) ≡ a && (b || c)
-    spread true b c = refl
-    spread false b c = refl
-
-    owner_of : (k j : ℕ) (w : View) → Fits h.plan h.seats h.book h.owner h.home j w → 0 < acts_for k (acts_of w.portions) → h.owner k ≡ j
-    owner_of k j w fit some_act = by (nat_eq (h.owner k) j) refl
-      where
-        by : (c : Bool) → nat_eq (h.owner k) j ≡ c → h.owner k ≡ j
-        by true is = eqb-true (h.owner k) j is
-        by false is = absurd (let z = none_acts k (acts_of w.portions) (fit.acts k ∙ unless (nat_eq (h.owner k) j) (h.book k) None is) in omega arith)
-
-    home_of : (k j : ℕ) (w : View) → Fits h.plan h.seats h.book h.owner h.home j w → has k (numbers_of w.portions) ≡ true → h.home k ≡ j
-    home_of k j w fit is = eqb-true (h.home k) j (and_right (nat_lt k h.seats) (nat_eq (h.home k) j) (sym (fit.numbers k) ∙ is))
-      where
-        and_right : (a b : Bool) → a && b ≡ true → b ≡ true
-        and_right true b e = e
-        and_right false b e = absurd (true≢false (sym e))
-
-    once_both : (m n : ℕ) → m ≤ 1 → n ≤ 1 → (0 < m → 0 < n → ⊥) → m + n ≤ 1
-    once_both zero n a b clash = omega arith
-    once_both (suc m) zero a b clash = omega arith
-    once_both (suc m) (suc n) a b clash = absurd (clash (omega arith) (omega arith))
-
-heads_and_tails : (ps : List Portion) → head_of ps ++ tail_of ps ≡ ps
-heads_and_tails [] = refl
-heads_and_tails (p ∷ ps) = refl
 
 -- the owner of what goes to the view n, and of the rest
 given : (ℕ → ℕ) → (ℕ → Bool) → ℕ → ℕ → ℕ
@@ -249,29 +78,116 @@ away_now o goes n j k x y e apart = unless (nat_eq (given o goes n k) j) x y (ap
 
 below_now : (o : ℕ → ℕ) (goes : ℕ → Bool) (n m k : ℕ) → o k < m → n < m → given o goes n k < m
 unfolding given
-below_now o goes n m k low high = by (goes k)
+below_now o goes n m k low high = elim (goes k) as (λ c. cond c n (o k) < m) [ true ↦ high | false ↦ low ]
+
+as_cond : (c : Bool) → c ≡ cond c true false
+as_cond true = refl
+as_cond false = refl
+
+-- joined views: who owns what the other had
+abbrev taken_over : (ℕ → ℕ) → ℕ → ℕ → ℕ → ℕ
+taken_over o other id = given o (λ k. nat_eq (o k) other) id
+
+module _ {A : Type 0} (o : ℕ → ℕ) (other id k : ℕ) (x y : A) (apart : other ≢ id) where
+  mine_now : cond (nat_eq (taken_over o other id k) id) x y ≡ cond (nat_eq (o k) id || nat_eq (o k) other) x y
+  mine_now = ⊎_elim
+      (λ (e : nat_eq (o k) other ≡ true). there_now o (λ i. nat_eq (o i) other) id k x y e ∙ sym (when (nat_eq (o k) id || nat_eq (o k) other) x y (or_right (nat_eq (o k) id) (nat_eq (o k) other) e)))
+      (λ (e : nat_eq (o k) other ≡ false). kept_now o (λ i. nat_eq (o i) other) id id k x y e ∙ ap (λ c. cond c x y) (sym (ap (λ c. nat_eq (o k) id || c) e ∙ or-false (nat_eq (o k) id))))
+      (cases_Bool (nat_eq (o k) other))
+
+  others_now : (j : ℕ) → j ≢ other → j ≢ id → cond (nat_eq (taken_over o other id k) j) x y ≡ cond (nat_eq (o k) j) x y
+  others_now j a b = ⊎_elim
+      (λ (e : nat_eq (o k) other ≡ true). away_now o (λ i. nat_eq (o i) other) id j k x y e b ∙ sym (unless (nat_eq (o k) j) x y (ne_eqb (o k) j (λ c. a (sym c ∙ eqb-true (o k) other e)))))
+      (kept_now o (λ i. nat_eq (o i) other) id j k x y)
+      (cases_Bool (nat_eq (o k) other))
+
+  spent_now : cond (nat_eq (taken_over o other id k) other) x y ≡ y
+  spent_now = ⊎_elim
+      (λ (e : nat_eq (o k) other ≡ true). away_now o (λ i. nat_eq (o i) other) id other k x y e apart)
+      (λ (e : nat_eq (o k) other ≡ false). kept_now o (λ i. nat_eq (o i) other) id other k x y e ∙ unless (nat_eq (o k) other) x y e)
+      (cases_Bool (nat_eq (o k) other))
+
+pub joins : (id : ℕ) (v : View) (other : ℕ) (u : View) → 0 < u.seats → 0 < v.seats → Joins Keeps id v other u (joined v u) spent
+unfolding has
+joins id v other u live' live s h at apart there =
+    let was : get_elem? s.views other ≡ some u = ⊎_elim (λ (x : (other ≡ id) × (joined v u ≡ u)). absurd (apart x.0)) (λ (x : (other ≢ id) × (get_elem? s.views other ≡ some u)). x.1) (at_set s.views id other (joined v u) u there) in
+    let f = h.each id v at in let g = h.each other u was in
+    let owner : ℕ → ℕ = taken_over h.owner other id in
+    let home : ℕ → ℕ = taken_over h.home other id in
+    let count : length (set (set s.views id (joined v u)) other spent) ≡ length s.views = length-set (set s.views id (joined v u)) other spent ∙ length-set s.views id (joined v u) in
+    let here : id < length s.views = short s.views id v at in
+    let both : Fits h.plan h.seats h.book owner home id (joined v u) = record {
+      plan = f.plan;
+      acts = λ k. ap (act_among k) (acts_append v.portions u.portions) ∙ among_append k (acts_of v.portions) (acts_of u.portions) ∙ ap (λ o. first_some o (act_in u k)) (f.acts k) ∙ ap (first_some (cond (nat_eq (h.owner k) id) (h.book k) None)) (g.acts k)
+          ∙ two (nat_eq (h.owner k) id) (nat_eq (h.owner k) other) (h.book k) (λ a b. apart (sym (eqb-true (h.owner k) other b) ∙ eqb-true (h.owner k) id a)) ∙ sym (mine_now h.owner other id k (h.book k) None apart);
+      numbers = λ k. ap (has k) (map-append (λ (p : Portion). p.number) v.portions u.portions) ∙ has-append k (numbers_of v.portions) (numbers_of u.portions) ∙ ap (λ c. c || has k (numbers_of u.portions)) (f.numbers k) ∙ ap (λ c. nat_lt k h.seats && nat_eq (h.home k) id || c) (g.numbers k)
+          ∙ sym (and-or_distrib_left (nat_lt k h.seats) (nat_eq (h.home k) id) (nat_eq (h.home k) other)) ∙ ap (λ c. nat_lt k h.seats && c) (as_cond (nat_eq (h.home k) id || nat_eq (h.home k) other) ∙ sym (mine_now h.home other id k true false apart) ∙ sym (as_cond (nat_eq (home k) id)));
+      numbers_once = subst AreDistinct (sym (map-append (λ (p : Portion). p.number) v.portions u.portions)) (distinct_append (numbers_of v.portions) (numbers_of u.portions) f.numbers_once g.numbers_once
+          (λ k a b. apart (sym (home_of k other u g b) ∙ home_of k id v f a)));
+      once = λ k. subst (λ (l : List Act). acts_for k l ≤ 1) (sym (acts_append v.portions u.portions)) (subst (λ n. n ≤ 1) (sym (acts_for_append k (acts_of v.portions) (acts_of u.portions)))
+          (once_both (acts_for k (acts_of v.portions)) (acts_for k (acts_of u.portions)) (f.once k) (g.once k)
+          (λ a b. apart (sym (owner_of k other u g b) ∙ owner_of k id v f a))));
+      seen = All-append (λ r. IsFilled (h.book r)) v.seen u.seen f.seen g.seen;
+    } in
+    let gone : Fits h.plan h.seats h.book owner home other spent = record {
+      plan = λ live. absurd (omega (arith, live));
+      acts = λ k. sym (spent_now h.owner other id k (h.book k) None apart);
+      numbers = λ k. sym (ap (λ c. nat_lt k h.seats && c) (as_cond (nat_eq (home k) other) ∙ spent_now h.home other id k true false apart) ∙ and-false (nat_lt k h.seats));
+      numbers_once = tail_distinct [] nothing_twice;
+      once = λ k. omega arith;
+      seen = λ k d l. absurd (omega (arith, l));
+    } in record {
+      plan = h.plan;
+      seats = h.seats;
+      book = h.book;
+      owner = owner;
+      home = home;
+      planned = h.planned;
+      long = h.long;
+      inside = h.inside;
+      cell = h.cell;
+      owned = λ k a e. subst (λ n. owner k < n) (sym count) (below_now h.owner (λ i. nat_eq (h.owner i) other) id (length s.views) k (h.owned k a e) here);
+      housed = λ k l. subst (λ n. home k < n) (sym count) (below_now h.home (λ i. nat_eq (h.home i) other) id (length s.views) k (h.housed k l) here);
+      each = λ j w e. ⊎_elim
+          (λ (x : (j ≡ other) × (spent ≡ w)). subst (λ (y : ℕ × View). Fits h.plan h.seats h.book owner home y.0 y.1) (λ i. (sym x.0 i, x.1 i)) gone)
+          (λ (x : (j ≢ other) × (get_elem? (set s.views id (joined v u)) j ≡ some w)). ⊎_elim
+          (λ (y : (j ≡ id) × (joined v u ≡ w)). subst (λ (z : ℕ × View). Fits h.plan h.seats h.book owner home z.0 z.1) (λ i. (sym y.0 i, y.1 i)) both)
+          (λ (y : (j ≢ id) × (get_elem? s.views j ≡ some w)). let o = h.each j w y.1 in record {
+            plan = o.plan;
+            acts = λ k. o.acts k ∙ sym (others_now h.owner other id k (h.book k) None apart j x.0 y.0);
+            numbers = λ k. o.numbers k ∙ ap (λ c. nat_lt k h.seats && c) (as_cond (nat_eq (h.home k) j) ∙ sym (others_now h.home other id k true false apart j x.0 y.0) ∙ sym (as_cond (nat_eq (home k) j)));
+            numbers_once = o.numbers_once;
+            once = o.once;
+            seen = o.seen;
+          })
+          (at_set s.views id j (joined v u) w x.1))
+          (at_set (set s.views id (joined v u)) other j spent w e);
+    }
   where
-    by : (c : Bool) → cond c n (o k) < m
-    by true = high
-    by false = low
+    two : (a b : Bool) (o : Option Act) → (a ≡ true → b ≡ true → ⊥) → first_some (cond a o None) (cond b o None) ≡ cond (a || b) o None
+    two true true o clash = absurd (clash refl refl)
+    two true false None clash = refl
+    two true false (Some a) clash = refl
+    two false true o clash = refl
+    two false false o clash = refl
 
-is_act : Option Act → Bool
-is_act None = false
-is_act (Some a) = true
+    owner_of : (k j : ℕ) (w : View) → Fits h.plan h.seats h.book h.owner h.home j w → 0 < acts_for k (acts_of w.portions) → h.owner k ≡ j
+    owner_of k j w fit some_act = ⊎_elim
+        (λ (is : nat_eq (h.owner k) j ≡ true). eqb-true (h.owner k) j is)
+        (λ (is : nat_eq (h.owner k) j ≡ false). absurd (let z = none_acts k (acts_of w.portions) (fit.acts k ∙ unless (nat_eq (h.owner k) j) (h.book k) None is) in omega arith))
+        (cases_Bool (nat_eq (h.owner k) j))
 
-no_act : (o : Option Act) → is_act o ≡ false → o ≡ None
-unfolding is_act
-no_act None e = refl
-no_act (Some a) e = absurd (true≢false e)
+    home_of : (k j : ℕ) (w : View) → Fits h.plan h.seats h.book h.owner h.home j w → has k (numbers_of w.portions) ≡ true → h.home k ≡ j
+    home_of k j w fit is = eqb-true (h.home k) j (and_parts (nat_lt k h.seats) (nat_eq (h.home k) j) (sym (fit.numbers k) ∙ is)).1
 
-an_act : (o : Option Act) → is_act o ≡ true → (a : Act) × (o ≡ Some a)
-unfolding is_act
-an_act None e = absurd (true≢false (sym e))
-an_act (Some a) e = (a, refl)
+    once_both : (m n : ℕ) → m ≤ 1 → n ≤ 1 → (0 < m → 0 < n → ⊥) → m + n ≤ 1
+    once_both zero n a b clash = omega arith
+    once_both (suc m) zero a b clash = omega arith
+    once_both (suc m) (suc n) a b clash = absurd (clash (omega arith) (omega arith))
 
-decide : (c : Bool) → (c ≡ true) ⊎ (c ≡ false)
-decide true = inl refl
-decide false = inr refl
+heads_and_tails : (ps : List Portion) → head_of ps ++ tail_of ps ≡ ps
+heads_and_tails [] = refl
+heads_and_tails (p ∷ ps) = refl
 
 -- the first portion goes to a new seat
 pub splits : (id : ℕ) (v : View) → 2 ≤ length v.portions → Splits Keeps id v (left_part v) (right_part v)
@@ -284,25 +200,25 @@ splits id v two_portions s h at =
     let whole : acts_of v.portions ≡ front ++ back = ap acts_of (sym (heads_and_tails v.portions)) ∙ acts_append (head_of v.portions) (tail_of v.portions) in
     let once : (k : ℕ) → acts_for k (front ++ back) ≤ 1 = (λ k. subst (λ (l : List Act). acts_for k l ≤ 1) whole (f.once k)) in
     let acts : (k : ℕ) → first_some (act_among k front) (act_among k back) ≡ cond (nat_eq (h.owner k) id) (h.book k) None = (λ k. sym (among_append k front back) ∙ ap (act_among k) (sym whole) ∙ f.acts k) in
-    let goes : ℕ → Bool = λ k. is_act (act_among k front) in
+    let goes : ℕ → Bool = λ k. is_some (act_among k front) in
     let houses : ℕ → Bool = λ k. has k (numbers_of (head_of v.portions)) in
     let owner : ℕ → ℕ = given h.owner goes n in
     let home : ℕ → ℕ = given h.home houses n in
     let here : id < n = short s.views id v at in
     let old : id ≢ n = λ e. omega arith in
     let numbers : (k : ℕ) → has k (numbers_of (head_of v.portions)) || has k (numbers_of (tail_of v.portions)) ≡ nat_lt k h.seats && nat_eq (h.home k) id
-    = (λ k. sym (has_append k (numbers_of (head_of v.portions)) (numbers_of (tail_of v.portions))) ∙ ap (has k) (sym (map-append (λ (p : Portion). p.number) (head_of v.portions) (tail_of v.portions)) ∙ ap numbers_of (heads_and_tails v.portions)) ∙ f.numbers k) in
+    = (λ k. sym (has-append k (numbers_of (head_of v.portions)) (numbers_of (tail_of v.portions))) ∙ ap (has k) (sym (map-append (λ (p : Portion). p.number) (head_of v.portions) (tail_of v.portions)) ∙ ap numbers_of (heads_and_tails v.portions)) ∙ f.numbers k) in
     let count : length (set s.views id (left_part v) ++ right_part v ∷ []) ≡ suc n = length-append (set s.views id (left_part v)) (right_part v ∷ []) ∙ (let l = length-set s.views id (left_part v) in omega arith) in
     let left : Fits h.plan h.seats h.book owner home id (left_part v) = record {
       plan = f.plan;
       acts = λ k. ⊎_elim
-          (λ (g : goes k ≡ true). let a = an_act (act_among k front) g in one_part k front back (once k) a.0 a.1 ∙ sym (away_now h.owner goes n id k (h.book k) None g old))
-          (λ (g : goes k ≡ false). ap (λ o. first_some o (act_among k back)) (sym (no_act (act_among k front) g)) ∙ acts k ∙ sym (kept_now h.owner goes n id k (h.book k) None g))
-          (decide (goes k));
+          (λ (g : goes k ≡ true). let a = has_some (act_among k front) g in one_part k front back (once k) a.0 a.1 ∙ sym (away_now h.owner goes n id k (h.book k) None g old))
+          (λ (g : goes k ≡ false). ap (λ o. first_some o (act_among k back)) (sym (has_none (act_among k front) g)) ∙ acts k ∙ sym (kept_now h.owner goes n id k (h.book k) None g))
+          (cases_Bool (goes k));
       numbers = λ k. ⊎_elim
-          (λ (g : houses k ≡ true). not_true (has k (numbers_of (tail_of v.portions))) (apart k g) ∙ sym (and_with (nat_lt k h.seats) (nat_eq (home k) id) (as_cond (nat_eq (home k) id) ∙ away_now h.home houses n id k true false g old)))
+          (λ (g : houses k ≡ true). false_from_ne_true (has k (numbers_of (tail_of v.portions))) (apart k g) ∙ sym (and_right (nat_lt k h.seats) (nat_eq (home k) id) (as_cond (nat_eq (home k) id) ∙ away_now h.home houses n id k true false g old)))
           (λ (g : houses k ≡ false). ap (λ c. c || has k (numbers_of (tail_of v.portions))) (sym g) ∙ numbers k ∙ ap (λ c. nat_lt k h.seats && c) (as_cond (nat_eq (h.home k) id) ∙ sym (kept_now h.home houses n id k true false g) ∙ sym (as_cond (nat_eq (home k) id))))
-          (decide (houses k));
+          (cases_Bool (houses k));
       numbers_once = tail_distinct v.portions f.numbers_once;
       once = λ k. (let t = acts_for_append k front back in let o = once k in omega arith);
       seen = f.seen;
@@ -310,13 +226,13 @@ splits id v two_portions s h at =
     let right : Fits h.plan h.seats h.book owner home n (right_part v) = record {
       plan = f.plan;
       acts = λ k. ⊎_elim
-          (λ (g : goes k ≡ true). let a = an_act (act_among k front) g in a.1 ∙ sym (mine_is (nat_eq (h.owner k) id) (h.book k) a.0 (sym (acts k) ∙ ap (λ o. first_some o (act_among k back)) a.1)) ∙ sym (there_now h.owner goes n k (h.book k) None g))
-          (λ (g : goes k ≡ false). no_act (act_among k front) g ∙ sym (kept_now h.owner goes n n k (h.book k) None g ∙ unowned k (h.book k) refl))
-          (decide (goes k));
+          (λ (g : goes k ≡ true). let a = has_some (act_among k front) g in a.1 ∙ sym ((cond_owner (h.owner k) id (h.book k) a.0 (sym (acts k) ∙ ap (λ o. first_some o (act_among k back)) a.1)).1) ∙ sym (there_now h.owner goes n k (h.book k) None g))
+          (λ (g : goes k ≡ false). has_none (act_among k front) g ∙ sym (kept_now h.owner goes n n k (h.book k) None g ∙ unowned k (h.book k) refl))
+          (cases_Bool (goes k));
       numbers = λ k. ⊎_elim
-          (λ (g : houses k ≡ true). g ∙ sym (and_true (nat_lt k h.seats) (nat_eq (home k) n) (in_seats k g) (as_cond (nat_eq (home k) n) ∙ there_now h.home houses n k true false g)))
-          (λ (g : houses k ≡ false). g ∙ sym (unhoused k (decide (nat_lt k h.seats)) g))
-          (decide (houses k));
+          (λ (g : houses k ≡ true). g ∙ sym (and_from (nat_lt k h.seats) (nat_eq (home k) n) (in_seats k g) (as_cond (nat_eq (home k) n) ∙ there_now h.home houses n k true false g)))
+          (λ (g : houses k ≡ false). g ∙ sym (unhoused k (cases_Bool (nat_lt k h.seats)) g))
+          (cases_Bool (houses k));
       numbers_once = head_distinct v.portions;
       once = λ k. (let t = acts_for_append k front back in let o = once k in omega arith);
       seen = f.seen;
@@ -338,13 +254,13 @@ splits id v two_portions s h at =
           (λ (y : (j ≢ id) × (get_elem? s.views j ≡ some w)). let o = h.each j w y.1 in let below : j ≢ n = (λ c. (let z = short s.views j w y.1 in omega arith)) in record {
             plan = o.plan;
             acts = λ k. o.acts k ∙ ⊎_elim
-                (λ (g : goes k ≡ true). let a = an_act (act_among k front) g in unless (nat_eq (h.owner k) j) (h.book k) None (ne_eqb (h.owner k) j (λ c. y.0 (sym c ∙ owns k a.0 (sym (acts k) ∙ ap (λ z. first_some z (act_among k back)) a.1)))) ∙ sym (away_now h.owner goes n j k (h.book k) None g below))
+                (λ (g : goes k ≡ true). let a = has_some (act_among k front) g in unless (nat_eq (h.owner k) j) (h.book k) None (ne_eqb (h.owner k) j (λ c. y.0 (sym c ∙ (cond_owner (h.owner k) id (h.book k) a.0 (sym (acts k) ∙ ap (λ z. first_some z (act_among k back)) a.1)).0))) ∙ sym (away_now h.owner goes n j k (h.book k) None g below))
                 (λ (g : goes k ≡ false). sym (kept_now h.owner goes n j k (h.book k) None g))
-                (decide (goes k));
+                (cases_Bool (goes k));
             numbers = λ k. o.numbers k ∙ ap (λ c. nat_lt k h.seats && c) (as_cond (nat_eq (h.home k) j) ∙ ⊎_elim
                 (λ (g : houses k ≡ true). unless (nat_eq (h.home k) j) true false (ne_eqb (h.home k) j (λ c. y.0 (sym c ∙ stays k g))) ∙ sym (away_now h.home houses n j k true false g below))
                 (λ (g : houses k ≡ false). sym (kept_now h.home houses n j k true false g))
-                (decide (houses k)) ∙ sym (as_cond (nat_eq (home k) j)));
+                (cases_Bool (houses k)) ∙ sym (as_cond (nat_eq (home k) j)));
             numbers_once = o.numbers_once;
             once = o.once;
             seen = o.seen;
@@ -354,57 +270,19 @@ splits id v two_portions s h at =
           (at_end (set s.views id (left_part v)) (right_part v) w j e);
     }
   where
-    as_cond : (c : Bool) → c ≡ cond c true false
-    as_cond true = refl
-    as_cond false = refl
-
-    not_true : (c : Bool) → (c ≡ true → ⊥) → c ≡ false
-    not_true true g = absurd (g refl)
-    not_true false g = refl
-
-    and_with : (a b : Bool) → b ≡ false → a && b ≡ false
-    and_with true b e = e
-    and_with false b e = refl
-
-    and_true : (a b : Bool) → a ≡ true → b ≡ true → a && b ≡ true
-    and_true a b e e' = ap (λ c. c && b) e ∙ e'
-
-    and_left : (a b : Bool) → a && b ≡ true → a ≡ true
-    and_left true b e = refl
-    and_left false b e = e
-
-    and_right : (a b : Bool) → a && b ≡ true → b ≡ true
-    and_right true b e = e
-    and_right false b e = absurd (true≢false (sym e))
-
-    mine_is : (c : Bool) (o : Option Act) (a : Act) → cond c o None ≡ Some a → o ≡ Some a
-    mine_is true o a e = e
-    mine_is false o a e = absurd (cc)
-
     both : (k : ℕ) → has k (numbers_of (head_of v.portions)) ≡ true → nat_lt k h.seats && nat_eq (h.home k) id ≡ true
-    both k g = sym ((h.each id v at).numbers k) ∙ ap (has k) (ap numbers_of (sym (heads_and_tails v.portions)) ∙ map-append (λ (p : Portion). p.number) (head_of v.portions) (tail_of v.portions)) ∙ has_append k (numbers_of (head_of v.portions)) (numbers_of (tail_of v.portions)) ∙ ap (λ c. c || has k (numbers_of (tail_of v.portions))) g
+    both k g = sym ((h.each id v at).numbers k) ∙ ap (has k) (ap numbers_of (sym (heads_and_tails v.portions)) ∙ map-append (λ (p : Portion). p.number) (head_of v.portions) (tail_of v.portions)) ∙ has-append k (numbers_of (head_of v.portions)) (numbers_of (tail_of v.portions)) ∙ ap (λ c. c || has k (numbers_of (tail_of v.portions))) g
 
     in_seats : (k : ℕ) → has k (numbers_of (head_of v.portions)) ≡ true → nat_lt k h.seats ≡ true
-    in_seats k g = and_left (nat_lt k h.seats) (nat_eq (h.home k) id) (both k g)
+    in_seats k g = (and_parts (nat_lt k h.seats) (nat_eq (h.home k) id) (both k g)).0
 
     stays : (k : ℕ) → has k (numbers_of (head_of v.portions)) ≡ true → h.home k ≡ id
-    stays k g = eqb-true (h.home k) id (and_right (nat_lt k h.seats) (nat_eq (h.home k) id) (both k g))
+    stays k g = eqb-true (h.home k) id (and_parts (nat_lt k h.seats) (nat_eq (h.home k) id) (both k g)).1
 
     unowned : (k : ℕ) (o : Option Act) → h.book k ≡ o → cond (nat_eq (h.owner k) (length s.views)) o None ≡ None
-    unowned k None e = none (nat_eq (h.owner k) (length s.views))
-      where
-        none : (c : Bool) → cond {A = Option Act} c None None ≡ None
-        none true = refl
-        none false = refl
+    unowned k None e = none_both (nat_eq (h.owner k) (length s.views)) None refl
     unowned k (Some a) e = unless (nat_eq (h.owner k) (length s.views)) (Some a) None (ne_eqb (h.owner k) (length s.views) (λ c. (let l = h.owned k a e in omega arith)))
 
     unhoused : (k : ℕ) → (nat_lt k h.seats ≡ true) ⊎ (nat_lt k h.seats ≡ false) → has k (numbers_of (head_of v.portions)) ≡ false → nat_lt k h.seats && nat_eq (given h.home (λ i. has i (numbers_of (head_of v.portions))) (length s.views) k) (length s.views) ≡ false
-    unhoused k (inl e) g = and_with (nat_lt k h.seats) _ (as_cond _ ∙ kept_now h.home (λ i. has i (numbers_of (head_of v.portions))) (length s.views) (length s.views) k true false g ∙ unless (nat_eq (h.home k) (length s.views)) true false (ne_eqb (h.home k) (length s.views) (λ c. (let l = h.housed k (ltb-true k h.seats e) in omega arith))))
+    unhoused k (inl e) g = and_right (nat_lt k h.seats) _ (as_cond _ ∙ kept_now h.home (λ i. has i (numbers_of (head_of v.portions))) (length s.views) (length s.views) k true false g ∙ unless (nat_eq (h.home k) (length s.views)) true false (ne_eqb (h.home k) (length s.views) (λ c. (let l = h.housed k (ltb-true k h.seats e) in omega arith))))
     unhoused k (inr e) g = ap (λ c. c && nat_eq (given h.home (λ i. has i (numbers_of (head_of v.portions))) (length s.views) k) (length s.views)) e
-
-    owns : (k : ℕ) (a : Act) → cond (nat_eq (h.owner k) id) (h.book k) None ≡ Some a → h.owner k ≡ id
-    owns k a e = by (nat_eq (h.owner k) id) refl e
-      where
-        by : (c : Bool) → nat_eq (h.owner k) id ≡ c → cond c (h.book k) None ≡ Some a → h.owner k ≡ id
-        by true is e' = eqb-true (h.owner k) id is
-        by false is e' = absurd (cc)

@@ -1,33 +1,8 @@
 -- The receipts of a board: each filled rank stands in one of them, once.
-use Rattle.std.proofs.Common.{◌≡◌, ◌⊎◌, ℕ, zero, suc, ◌<◌, List, [], ◌∷◌, ◌++◌, length, get_or, Bool, true, false, ◌||◌, nat_eq, eqb-true, true≢false, inl, inr, ⊎_elim, Option, Some, None, refl, sym, ap, ◌∙◌, subst, arith}
-use Rattle.std.specs.Prelude.{cond}
-use Rattle.std.specs.Option.{is_some}
-use Rattle.amp_plan.specs.Needs.{has, needs_at}
-use Rattle.amp_plan.specs.Plans.{Planning}
-use Rattle.amp_plan.specs.Rows.{AreDistinct}
-use Rattle.amp_terms.specs.declared.Outcome.{Outcome}
+use Rattle.amp_plan.proofs.RowLemmas.{has-append}
+use Rattle.std.proofs.Common.{◌≡◌, ℕ, zero, suc, ◌<◌, List, [], ◌∷◌, ◌++◌, length, get_or, Bool, true, false, nat_eq, eqb-true, true≢false, ⊎_elim, Option, Some, None, refl, sym, ap, ◌∙◌, subst, arith, cond, is_some}
+use Rattle.cell_words.proofs.Names.{or_cases, or_parts, or_left, or_right, has, needs_at, Planning, AreDistinct, Outcome, cells, outcome_at, CanResume, receipts_of, numbers_in, CountSeat}
 use Rattle.cell_words.specs.Closings.{HasJust, AreReceipts}
-use Rattle.cell_words.specs.Layout.{cells, outcome_at}
-use Rattle.cell_words.specs.Resuming.{CanResume}
-use Rattle.cell_words.specs.Deals.{receipts_of, numbers_in}
-use Rattle.cell_words.specs.declared.countdown.CountSeat.{CountSeat}
-use Rattle.cell_words.proofs.PartLemmas.{has_append}
-
-or_true : (a b : Bool) → (a || b) ≡ true → (a ≡ true) ⊎ (b ≡ true)
-or_true true b e = inl refl
-or_true false b e = inr e
-
-or_right : (a b : Bool) → b ≡ true → (a || b) ≡ true
-or_right true b e = refl
-or_right false b e = e
-
-or_left : (a b : Bool) → a ≡ true → (a || b) ≡ true
-or_left true b e = refl
-or_left false b e = absurd (true≢false (sym e))
-
-both_false : (a b : Bool) → (a || b) ≡ false → (a ≡ false) × (b ≡ false)
-both_false true b e = absurd (true≢false e)
-both_false false b e = (refl, e)
 
 -- the two parts of a list in which nothing stands twice
 parts : (xs ys : List ℕ) → AreDistinct (xs ++ ys) → AreDistinct xs × AreDistinct ys × ((r : ℕ) → has r xs ≡ true → has r ys ≡ true → ⊥)
@@ -35,16 +10,16 @@ unfolding AreDistinct has
 parts [] ys d = (tt, d, λ r h k. true≢false (sym h))
 parts (x ∷ xs) ys d =
     let t = parts xs ys d.1 in
-    let no = both_false (has x xs) (has x ys) (sym (has_append x xs ys) ∙ d.0) in (
+    let no = or_parts (has x xs) (has x ys) (sym (has-append x xs ys) ∙ d.0) in (
       (no.0, t.0),
       t.1,
-      λ r h k. ⊎_elim (λ (e : nat_eq r x ≡ true). true≢false (sym k ∙ ap (λ i. has i ys) (eqb-true r x e) ∙ no.1)) (λ e. t.2 r e k) (or_true (nat_eq r x) (has r xs) h),
+      λ r h k. ⊎_elim (λ (e : nat_eq r x ≡ true). true≢false (sym k ∙ ap (λ i. has i ys) (eqb-true r x e) ∙ no.1)) (λ e. t.2 r e k) (or_cases (nat_eq r x) (has r xs) h),
     )
 
 part_has : (ss : List CountSeat) (j : ℕ) (d : CountSeat) (r : ℕ) → j < length ss → has r (get_or ss j d).done.items ≡ true → has r (receipts_of ss) ≡ true
 part_has [] j d r l h = absurd (omega arith)
-part_has (s ∷ ss) zero d r l h = has_append r s.done.items (receipts_of ss) ∙ or_left (has r s.done.items) (has r (receipts_of ss)) h
-part_has (s ∷ ss) (suc j) d r l h = has_append r s.done.items (receipts_of ss) ∙ or_right (has r s.done.items) (has r (receipts_of ss)) (part_has ss j d r (omega arith) h)
+part_has (s ∷ ss) zero d r l h = has-append r s.done.items (receipts_of ss) ∙ or_left (has r s.done.items) (has r (receipts_of ss)) h
+part_has (s ∷ ss) (suc j) d r l h = has-append r s.done.items (receipts_of ss) ∙ or_right (has r s.done.items) (has r (receipts_of ss)) (part_has ss j d r (omega arith) h)
 
 part_once : (ss : List CountSeat) (j : ℕ) (d : CountSeat) → j < length ss → AreDistinct (receipts_of ss) → AreDistinct (get_or ss j d).done.items
 part_once [] j d l h = absurd (omega arith)
@@ -63,14 +38,14 @@ unfolding has
 part_there [] r h = absurd (true≢false (sym h))
 part_there (s ∷ ss) r h =
     ⊎_elim (λ (e : has r s.done.items ≡ true). (0, omega arith, λ d. e)) (λ e. let t = part_there ss r e in (suc t.0, let l = t.1 in omega arith, t.2))
-    (or_true (has r s.done.items) (has r (receipts_of ss)) (sym (has_append r s.done.items (receipts_of ss)) ∙ h))
+    (or_cases (has r s.done.items) (has r (receipts_of ss)) (sym (has-append r s.done.items (receipts_of ss)) ∙ h))
 
 number_there : (ss : List CountSeat) (k : ℕ) → has k (numbers_in ss) ≡ true → (j : ℕ) × (j < length ss) × ((d : CountSeat) → (get_or ss j d).number ≡ k)
 unfolding has
 number_there [] k h = absurd (true≢false (sym h))
 number_there (s ∷ ss) k h =
     ⊎_elim (λ (e : nat_eq k s.number ≡ true). (0, omega arith, λ d. sym (eqb-true k s.number e))) (λ e. let t = number_there ss k e in (suc t.0, let l = t.1 in omega arith, t.2))
-    (or_true (nat_eq k s.number) (has k (numbers_in ss)) h)
+    (or_cases (nat_eq k s.number) (has k (numbers_in ss)) h)
 
 pub cell_some : (b : Bool) (o : Outcome) → is_some (cond b (Some o) None) ≡ b
 cell_some true o = refl

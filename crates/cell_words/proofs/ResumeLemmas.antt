@@ -1,50 +1,31 @@
 -- Boards that begin with the outcomes of a table.
-use Rattle.std.proofs.Common.{◌≡◌, ℕ, zero, suc, ◌+◌, ◌*◌, ◌<◌, ◌≤◌, List, [], ◌∷◌, length, map, take, get_or, refl, sym, ap, ◌∙◌, subst, arith, Bool, true, false, true≢false, not, ◌&&◌, cond, nat_eq, ne_eqb, Option, Some, None, lt_of_not-le}
-use Rattle.std.specs.Option.{is_some}
+use Rattle.std.proofs.Common.{◌≡◌, ℕ, zero, suc, ◌+◌, ◌*◌, ◌<◌, ◌≤◌, List, [], ◌∷◌, length, map, take, get_or, refl, sym, ap, ◌∙◌, subst, arith, Bool, true, false, true≢false, not, ◌&&◌, cond, nat_eq, ne_eqb, Option, None, lt_of_not-le, is_some}
 use Rattle.std.proofs.Math.ListN.{get_or-map}
-use Rattle.std.proofs.lemmas.List.{get_or_past, length-map}
-use mathlib.Core.Logic.{dite}
-use native.Mathlib.Decide.{dec_le}
-use Rattle.airy_math.specs.Sums.{keep, below}
-use Rattle.amp_plan.specs.Plans.{Planning}
-use Rattle.amp_plan.specs.Needs.{has, needs_at}
+use Rattle.std.proofs.lemmas.List.{get_or_past}
 use Rattle.amp_plan.proofs.GraphLemmas.{keep-row, has-below}
-use Rattle.amp_terms.specs.declared.Outcome.{Outcome}
-use Rattle.cell_words.specs.Layout.{cells, code_of}
-use Rattle.cell_words.specs.Countdown.{count_of, AreCarried, IsOpening, carried_act, first_portions, first_view}
-use Rattle.cell_words.specs.Acts.{AreDone, ranks_of}
-use Rattle.cell_words.specs.Deals.{IsBlank, IsReady, IsDealt, AreAll, numbers_in}
+use Rattle.cell_words.proofs.Names.{none-some, false_from_ne_true, length-map, dite, dec_le, keep, below, Planning, has, needs_at, Outcome, cells, code_of, count_of, AreCarried, IsOpening, carried_act, first_portions, AreDone, ranks_of, IsBlank, IsReady, IsDealt, AreAll, numbers_in, carries, carried_in, CanResume, AreResumed, Portion, Countdown, CountSeat, View, get_or_default, unless}
+use Rattle.cell_words.specs.Countdown.{first_view}
 use Rattle.cell_words.specs.Starts.{all_in}
-use Rattle.cell_words.specs.Resuming.{carries, carried_in, CanResume, AreResumed, IsResumed, IsNew}
-use Rattle.cell_words.specs.declared.view.Portion.{Portion}
-use Rattle.cell_words.specs.declared.view.View.{View}
-use Rattle.cell_words.specs.declared.countdown.Countdown.{Countdown}
-use Rattle.cell_words.specs.declared.countdown.CountSeat.{CountSeat}
-use Rattle.cell_words.proofs.BookLemmas.{unless, has_at}
-use Rattle.cell_words.proofs.DealLemmas.{same_default}
+use Rattle.cell_words.specs.Resuming.{IsResumed, IsNew}
+use Rattle.cell_words.proofs.BookLemmas.{has_at}
+use Rattle.cell_words.proofs.DealLemmas.{nothing_done}
 use Rattle.cell_words.proofs.ReceiptLemmas.{first_of}
 use Rattle.cell_words.proofs.OpeningLemmas.{count_in, length-empty, empty_at}
 
 pub count_more : (f : ℕ → Bool) (xs : List ℕ) (i : ℕ) → i < length xs → count_of f (take (suc i) xs) ≡ cond (f (get_or xs i 0)) (suc (count_of f (take i xs))) (count_of f (take i xs))
 count_more f [] i l = absurd (omega arith)
 count_more f (x ∷ xs) zero l = refl
-count_more f (x ∷ xs) (suc i) l = by (f x) (f (get_or xs i 0)) (count_of f (take i xs)) (count_of f (take (suc i) xs)) (count_more f xs i (omega arith))
-  where
-    by : (a b : Bool) (n m : ℕ) → m ≡ cond b (suc n) n → cond a (suc m) m ≡ cond b (suc (cond a (suc n) n)) (cond a (suc n) n)
-    by true true n m e = ap suc e
-    by true false n m e = ap suc e
-    by false b n m e = e
+count_more f (x ∷ xs) (suc i) l =
+    let e = count_more f xs i (omega arith) in let m : ℕ = count_of f (take (suc i) xs) in let n : ℕ = count_of f (take i xs) in let b = f (get_or xs i 0) in
+    elim (f x) as (λ a. cond a (suc m) m ≡ cond b (suc (cond a (suc n) n)) (cond a (suc n) n))
+    [ true ↦ ap suc e ∙ (elim b as (λ b. suc (cond b (suc n) n) ≡ cond b (suc (suc n)) (suc n)) [ true ↦ refl | false ↦ refl ]) | false ↦ e ]
 
 -- the carried ranks are those at which the table has an outcome
 pub has_carried : (t : List (Option Outcome)) (r : ℕ) → has r (carried_in t) ≡ carries t r
 unfolding carried_in
 has_carried t r = dite (dec_le (length t) r)
-    (λ (l : length t ≤ r). past (has r (keep (carries t) (below (length t)))) (λ e. let h = (keep-row (carries t) (length t)).small r e in omega arith) ∙ sym (ap is_some (get_or_past t r None l)))
+    (λ (l : length t ≤ r). false_from_ne_true (has r (keep (carries t) (below (length t)))) (λ e. let h = (keep-row (carries t) (length t)).small r e in omega arith) ∙ sym (ap is_some (get_or_past t r None l)))
     (λ n. has-below (carries t) (length t) r (lt_of_not-le n))
-  where
-    past : (c : Bool) → (c ≡ true → ⊥) → c ≡ false
-    past true h = absurd (h refl)
-    past false h = refl
 
 pub are_carried : (p : Planning) (t : List (Option Outcome)) (words : List ℕ) → CanResume p t → AreResumed p t (cells p) words → AreCarried p (carried_in t)
 unfolding carried_in
@@ -69,11 +50,10 @@ resumed_opening p t words long h = record {
 -- no need is left where all are carried
 pub all_counted : (t : List (Option Outcome)) (qs : List ℕ) → nat_eq (count_of (λ q. not (carries t q)) qs) 0 ≡ all_in (carried_in t) qs
 all_counted t [] = refl
-all_counted t (q ∷ qs) = by (carries t q) (has_carried t q) (all_counted t qs)
-  where
-    by : (c : Bool) → has q (carried_in t) ≡ c → nat_eq (count_of (λ i. not (carries t i)) qs) 0 ≡ all_in (carried_in t) qs → nat_eq (cond (not c) (suc (count_of (λ i. not (carries t i)) qs)) (count_of (λ i. not (carries t i)) qs)) 0 ≡ has q (carried_in t) && all_in (carried_in t) qs
-    by true e h = h ∙ ap (λ b. b && all_in (carried_in t) qs) (sym e)
-    by false e h = ne_eqb (suc (count_of (λ i. not (carries t i)) qs)) 0 (λ z. omega arith) ∙ ap (λ b. b && all_in (carried_in t) qs) (sym e)
+all_counted t (q ∷ qs) =
+    let n : ℕ = count_of (λ i. not (carries t i)) qs in let all = all_in (carried_in t) qs in
+    (elim (carries t q) as (λ c. has q (carried_in t) ≡ c → nat_eq (cond (not c) (suc n) n) 0 ≡ has q (carried_in t) && all)
+    [ true ↦ λ e. all_counted t qs ∙ ap (λ b. b && all) (sym e) | false ↦ λ e. ne_eqb (suc n) 0 (λ z. omega (arith, z)) ∙ ap (λ b. b && all) (sym e) ]) (has_carried t q)
 
 -- the acts of carried ranks are done
 pub carried_done : (p : Planning) (rs : List ℕ) → AreDone p (map (carried_act p) rs)
@@ -90,10 +70,6 @@ carried_ranks_are p (r ∷ rs) = ap (λ l. r ∷ l) (carried_ranks_are p rs)
 pub first_length : (p : Planning) (n : ℕ) (carried : List ℕ) → length (first_portions p n carried) ≡ n
 first_length p zero carried = refl
 first_length p (suc n) carried = ap suc (length-empty 1 n)
-
-nothing_done : (p : Planning) → AreDone p []
-unfolding AreDone
-nothing_done p = tt
 
 -- a blank seat can have its portion of the first view
 pub first_ready : (p : Planning) (n : ℕ) (carried : List ℕ) (j : ℕ) (q : Portion) (s : CountSeat) → j < n → IsBlank (cells p) carried j s → IsReady p (get_or (first_portions p n carried) j q) s
@@ -123,32 +99,25 @@ unfolding carried_in keep below Rattle.airy_math.specs.Sums.count_from
 nothing_carried = refl
 
 pub nothing_to_resume : (p : Planning) → CanResume p []
-nothing_to_resume p = record { long = omega arith; right = λ r o e. absurd (none_some o e); needs = λ r q e n. absurd (true≢false (sym e)) }
-  where
-    none_some : (o : Outcome) → None ≡ Some o → ⊥
-    none_some o e = cc
+nothing_to_resume p = record { long = omega arith; right = λ r o e. absurd (none-some o e); needs = λ r q e n. absurd (true≢false (sym e)) }
 
 pub resumed_new : (b : Countdown) (carried : List ℕ) (k : ℕ) (t : CountSeat) → carried ≡ [] → IsResumed b carried k t → IsNew b k t
 resumed_new b carried k t none h = record {
   seat = h.seat;
   number = h.number;
   held = h.held;
-  done = h.done ∙ ap (λ l. cond (nat_eq k 0) l []) none ∙ same (nat_eq k 0);
+  done = h.done ∙ ap (λ l. cond (nat_eq k 0) l []) none ∙ (elim (nat_eq k 0) as (λ c. cond {A = List ℕ} c [] [] ≡ []) [ true ↦ refl | false ↦ refl ]);
   seen = h.seen ∙ none;
   looks = h.looks;
   latest = h.latest;
 }
-  where
-    same : (c : Bool) → cond {A = List ℕ} c [] [] ≡ []
-    same true = refl
-    same false = refl
 
 -- ---- all seats
 
 number_there : (ss : List CountSeat) (j : ℕ) (d : CountSeat) → j < length ss → (get_or ss j d).number ≡ j → has j (numbers_in ss) ≡ true
 number_there ss j d l e =
     let low : j < length (numbers_in ss) = omega (arith, l, length-map ss (λ s. s.number)) in
-    subst (λ i. has i (numbers_in ss) ≡ true) (same_default (numbers_in ss) j 0 d.number low ∙ get_or-map (λ s. s.number) ss j d ∙ e) (has_at (numbers_in ss) j low)
+    subst (λ i. has i (numbers_in ss) ≡ true) (get_or_default (numbers_in ss) j 0 d.number low ∙ get_or-map (λ s. s.number) ss j d ∙ e) (has_at (numbers_in ss) j low)
 
 -- the seats that a board begins with are all its seats
 pub all_resumed : (b : Countdown) (carried : List ℕ) (ss : List CountSeat) → b.base.seats ≡ length ss → ((k : ℕ) (d : CountSeat) → k < length ss → IsResumed b carried k (get_or ss k d)) → AreAll b ss

@@ -1,19 +1,8 @@
 -- A seat before and after a step.
-use Rattle.std.proofs.Common.{◌≡◌, ℕ, ◌<◌, List, [], ◌∷◌, sym, ap, ap₂, ◌∙◌, subst, arith, ◌++◌, Option, Some, None, ◌≤◌, false, true, length}
-use Rattle.amp_plan.specs.Plans.{Planning}
-use Rattle.amp_plan.specs.Needs.{has, needs_at, dependents_at}
+use Rattle.std.proofs.Common.{◌≡◌, ℕ, ◌<◌, List, [], ◌∷◌, sym, ap, ap₂, ◌∙◌, subst, arith, ◌++◌, Option, Some, None, ◌≤◌, false, true, length, vec_capacity}
+use Rattle.cell_words.proofs.Names.{Planning, has, needs_at, dependents_at, cells, Seat, Act, Portion, Countdown, CountSeat, acts_of, act_in, active, with_act, tail_of, claimed, Known, by_sight, by_holding, by_need, Holds, act_of, IsDone, IsAt, freed_by, view_in, view_of, IsToken, HasToken, IsAtAct, IsResting, IsHolding, IsSeatOf, View}
 use Rattle.cell_words.proofs.StepLemmas.{has_append, has_push}
-use Rattle.std.specs.Prelude.{vec_capacity}
-use Rattle.cell_words.specs.Layout.{cells}
-use Rattle.atomic_table.specs.declared.shared.Seat.{Seat}
-use Rattle.cell_words.specs.declared.view.Act.{Act}
-use Rattle.cell_words.specs.declared.view.View.{View}
-use Rattle.cell_words.specs.declared.view.Portion.{Portion}
-use Rattle.cell_words.specs.declared.countdown.Countdown.{Countdown}
-use Rattle.cell_words.specs.declared.countdown.CountSeat.{CountSeat}
-use Rattle.cell_words.specs.Countdown.{acts_of, act_in, active, with_act, tail_of, claimed, Known, by_sight, by_holding, by_need, Holds}
-use Rattle.cell_words.specs.Acts.{act_of, IsDone, IsAt, freed_of, freed_by}
-use Rattle.cell_words.specs.Seats.{view_in, view_of, IsToken, HasToken, IsAtAct, IsResting, IsHolding, IsSeatOf}
+use Rattle.cell_words.specs.Acts.{freed_of}
 use Rattle.cell_words.proofs.ActLemmas.{at_active, at_changed, at_fresh, at_done, done_holds}
 
 pub token_in : (b : Countdown) (s : CountSeat) (x : Seat (Unit {0}) View) → s.place ≡ Some x → HasToken b s.place → IsToken b x

@@ -1,27 +1,15 @@
 -- Each step keeps the rule.
-use Rattle.std.proofs.Common.{◌≡◌, ◌≢◌, ◌⊎◌, ℕ, zero, suc, ◌+◌, ◌-◌, ◌*◌, ◌/◌, ◌%◌, ◌<◌, ◌≤◌, ◌^◌, List, [], ◌∷◌, ◌++◌, length, map, take, set, get_or, refl, sym, ap, ◌∙◌, subst, ⊎_elim, arith, inl, inr, Bool, true, false, true≢false, not, ◌&&◌, ◌||◌, cond, nat_eq, nat_lt, All, eqb, eq-eqb, ne_eqb, eqb-true, Option, Some, None, length-set, get_or-set_other, get_or-set_same, lt-ltb, le-ltb, ltb-true, mod-eq_of_lt, lt_of_not-le}
+use Rattle.std.proofs.Common.{◌≡◌, ◌≢◌, ◌⊎◌, ℕ, zero, suc, ◌+◌, ◌-◌, ◌*◌, ◌/◌, ◌%◌, ◌<◌, ◌≤◌, ◌^◌, List, [], ◌∷◌, ◌++◌, length, map, take, set, get_or, refl, sym, ap, ◌∙◌, subst, ⊎_elim, arith, inl, inr, Bool, true, false, true≢false, not, ◌&&◌, ◌||◌, cond, nat_eq, nat_lt, All, eqb, eq-eqb, ne_eqb, eqb-true, Option, Some, None, length-set, get_or-set_other, get_or-set_same, lt-ltb, le-ltb, ltb-true, mod-eq_of_lt, lt_of_not-le, slice_index}
 use Rattle.std.proofs.Math.Nat.{mul-div_cancel_left, add-mod_right}
-use Rattle.std.proofs.lemmas.List.{set-get_or}
-use Rattle.std.proofs.lemmas.List.Elements.{All-append}
-use Rattle.std.specs.Prelude.{slice_index}
-use mathlib.Core.Logic.{dite}
-use mathlib.Core.Option.{none, some, some-ne-none}
-use native.Mathlib.Decide.{dec_le, ℕ_discrete}
+use Rattle.std.proofs.lemmas.List.Elements.{All-push, All-head, All-tail}
 use prog.Atomic.{either}
-use lib.ListN.{get_elem?}
-use Rattle.atomic_table.specs.Table.{State, Me, Step, step, keeps, stepped, Valid, carried_after, Allows, Splits, Joins}
-use Rattle.atomic_table.specs.Table as table
+use Rattle.atomic_table.specs.Table.{State, Me, Step, stepped, Valid, carried_after}
 use Rattle.atomic_table.proofs.Lists.{at_set, set_again, exchanged}
-use Rattle.amp_plan.specs.Plans.{Planning}
-use Rattle.amp_plan.specs.Needs.{has, needs_at, dependents_at}
-use Rattle.amp_plan.specs.Rows.{AreDistinct}
-use Rattle.cell_words.specs.Layout.{cells, code_of, outcome_at}
-use Rattle.cell_words.specs.Words.{IsSized}
-use Rattle.cell_words.specs.declared.view.Act.{Act}
-use Rattle.cell_words.specs.declared.view.Portion.{Portion}
-use Rattle.cell_words.specs.declared.view.View.{View}
-use Rattle.cell_words.specs.Countdown.{CLAIMED, FILLED, acts_of, act_among, act_in, numbers_of, Book, signed_in, signs, unsigned, state_of, written_of, IsFilled, IsAct, IsActIn, Cell, Fits, Lawful, Keeps, M, acts_for, with_act, fresh_act, with_fresh, claimed, looked, write_more, fill_up, sign_one, active, IsState, IsWhole, Looked, Claimed, Wrote, Filled, Signed, Read, Holds, Known, by_sight, by_holding, by_need}
-use Rattle.cell_words.proofs.BookLemmas.{when, unless, put, put_here, put_else, put_owner, signs_same, cell_else, count_le, says_filled, says_free, all_signed, has_more, has_at, has_not_yet, count_fewer, or_false, changed, act_change, act_fresh, none_acts, acts_for_changed, acts_for_fresh, fewer_acts}
+use Rattle.cell_words.proofs.Names.{none-some, or-true, or_left, or_right, or_cases, cases_lt, set-get_or, dite, none, some, some-ne-none, ℕ_discrete, get_elem?, step, keeps, Allows, Planning, has, needs_at, dependents_at, AreDistinct, cells, code_of, outcome_at, IsSized, Act, Portion, CLAIMED, FILLED, acts_of, act_among, act_in, numbers_of, Book, signed_in, signs, unsigned, state_of, written_of, IsFilled, IsAct, IsActIn, Cell, acts_for, with_act, fresh_act, with_fresh, claimed, write_more, fill_up, sign_one, active, IsState, IsWhole, Holds, Known, by_sight, by_holding, by_need, View, when, unless, or-false, and_parts}
+use Rattle.cell_words.specs.Countdown.{Fits, Lawful, Keeps, M, looked, Looked, Claimed, Wrote, Filled, Signed, Read}
+use Rattle.amp_plan.proofs.RowLemmas.{has-append, has-one}
+use Rattle.cell_words.proofs.BookLemmas.{put, put_here, put_else, put_owner, signs_same, cell_else, count_le, says_filled, says_free, all_signed, has_more, has_at, has_not_yet, count_fewer, changed, act_change, act_fresh, none_acts, acts_for_changed, acts_for_fresh, fewer_acts}
+use Rattle.atomic_table.specs.Table as table
 
 -- the view of the seat id becomes w, under a book that differs from the old one at no act of another seat
 moves : (words new : List ℕ) (views : List View) (h : Lawful words views) (id : ℕ) (v w : View) (b : Book) (owner : ℕ → ℕ) → get_elem? views id ≡ some v
@@ -70,10 +58,6 @@ moves words new views h id v w b owner at plan seats numbers mine others cell lo
       seen = seen;
     }
 
-pub one : (P : ℕ → Type 0) (x : ℕ) → P x → All P (x ∷ [])
-one P x h zero d l = h
-one P x h (suc k) d l = absurd (omega arith)
-
 pub unsigned_low : (words : List ℕ) (views : List View) (h : Lawful words views) (r : ℕ) → unsigned h.plan h.book r < CLAIMED
 unsigned_low words views h r = let few = h.planned.few_needs r in let all = h.planned.few in let le = count_le (λ q. not (signs h.plan h.book q r)) (needs_at h.plan r) in omega arith
 
@@ -86,7 +70,7 @@ looked_keeps words views h id v r n at low is =
     (h.each id v at).once h.owned
   where
     seen_now : (b : Bool) → (b ≡ true → IsFilled (h.book r)) → All (λ k. IsFilled (h.book k)) (cond b (v.seen ++ r ∷ []) v.seen)
-    seen_now true fact = All-append (λ k. IsFilled (h.book k)) v.seen (r ∷ []) (h.each id v at).seen (one (λ k. IsFilled (h.book k)) r (fact refl))
+    seen_now true fact = All-push (λ k. IsFilled (h.book k)) v.seen r (h.each id v at).seen (fact refl)
     seen_now false fact = (h.each id v at).seen
 
 pub div_five : (r : ℕ) → 5 * r / 5 ≡ r
@@ -97,20 +81,15 @@ pub plan_is : (words : List ℕ) (views : List View) (h : Lawful words views) (i
 plan_is words views h id v at live = ((h.each id v at).plan live).0
 
 put_mine : (b : Book) (owner : ℕ → ℕ) (r : ℕ) (a : Act) (id k : ℕ) → cond (nat_eq k r) (Some a) (cond (nat_eq (owner k) id) (b k) None) ≡ cond (nat_eq (put_owner owner r id k) id) (put b r a k) None
-put_mine b owner r a id k = by (nat_eq k r)
-  where
-    by : (c : Bool) → cond c (Some a) (cond (nat_eq (owner k) id) (b k) None) ≡ cond (nat_eq (cond c id (owner k)) id) (cond c (Some a) (b k)) None
-    by true = sym (when (nat_eq id id) (Some a) None (eq-eqb id id refl))
-    by false = refl
+put_mine b owner r a id k =
+    elim (nat_eq k r) as (λ c. cond c (Some a) (cond (nat_eq (owner k) id) (b k) None) ≡ cond (nat_eq (cond c id (owner k)) id) (cond c (Some a) (b k)) None) [ true ↦ sym (when (nat_eq id id) (Some a) None (eq-eqb id id refl)) | false ↦ refl ]
 
 put_foreign : (b : Book) (owner : ℕ → ℕ) (r : ℕ) (a : Act) (id j k : ℕ) → j ≢ id → cond (nat_eq (owner r) j) (b r) None ≡ None → cond (nat_eq (put_owner owner r id k) j) (put b r a k) None ≡ cond (nat_eq (owner k) j) (b k) None
-put_foreign b owner r a id j k apart gone = by (nat_eq k r) refl
-  where
-    by : (c : Bool) → nat_eq k r ≡ c → cond (nat_eq (cond c id (owner k)) j) (cond c (Some a) (b k)) None ≡ cond (nat_eq (owner k) j) (b k) None
-    by true is = unless (nat_eq id j) (Some a) None (ne_eqb id j (λ e. apart (sym e))) ∙ sym gone ∙ ap (λ i. cond (nat_eq (owner i) j) (b i) None) (sym (eqb-true k r is))
-    by false is = refl
+put_foreign b owner r a id j k apart gone =
+    (elim (nat_eq k r) as (λ c. nat_eq k r ≡ c → cond (nat_eq (cond c id (owner k)) j) (cond c (Some a) (b k)) None ≡ cond (nat_eq (owner k) j) (b k) None)
+    [ true ↦ λ is. unless (nat_eq id j) (Some a) None (ne_eqb id j (λ e. apart (sym e))) ∙ sym gone ∙ ap (λ i. cond (nat_eq (owner i) j) (b i) None) (sym (eqb-true k r is)) | false ↦ λ _. refl ]) refl
 
-none_both : (c : Bool) (o : Option Act) → o ≡ None → cond c o None ≡ None
+pub none_both : (c : Bool) (o : Option Act) → o ≡ None → cond c o None ≡ None
 none_both true o e = e
 none_both false o e = refl
 
@@ -133,6 +112,11 @@ cell_put p new b r a state values act = record {
   values = λ k low. values k low ∙ ap (λ o. cond (nat_lt k (written_of o)) (code_of p r k) 0) (sym (put_here b r a));
   act = subst (IsActIn p (put b r a) r) (sym (put_here b r a)) act;
 }
+
+-- whose it is, where it is given to its owner alone
+pub cond_owner : (n id : ℕ) (o : Option Act) (a : Act) → cond (nat_eq n id) o None ≡ Some a → (n ≡ id) × (o ≡ Some a)
+cond_owner n id o a e =
+    (elim (nat_eq n id) as (λ c. nat_eq n id ≡ c → cond c o None ≡ Some a → (n ≡ id) × (o ≡ Some a)) [ true ↦ λ is e. (eqb-true n id is, e) | false ↦ λ _ e. absurd (none-some a e) ]) refl e
 
 numbers_fresh : (r : ℕ) (ps : List Portion) → numbers_of (with_fresh r ps) ≡ numbers_of ps
 numbers_fresh r [] = refl
@@ -184,11 +168,7 @@ claim_free words views h id v r at low zero_now = let c = h.cell r low in (h.eac
 
 state_in : (n : ℕ) (o : Option Act) → n < CLAIMED → IsState (state_of n o)
 state_in n None l = inl l
-state_in n (Some a) l = by a.filled
-  where
-    by : (f : Bool) → IsState (cond f FILLED CLAIMED)
-    by true = inr (inr refl)
-    by false = inr (inl refl)
+state_in n (Some a) l = elim a.filled as (λ f. IsState (cond f FILLED CLAIMED)) [ true ↦ inr (inr refl) | false ↦ inr (inl refl) ]
 
 -- a view that has no act of a rank has fewer acts than there are cells
 few_acts : (words : List ℕ) (views : List View) (h : Lawful words views) (id : ℕ) (v : View) (r : ℕ) → get_elem? views id ≡ some v → r < cells h.plan → act_in v r ≡ None → length (acts_of v.portions) < cells h.plan
@@ -208,10 +188,6 @@ unfolding has
 a_number r [] a e = absurd (cc)
 a_number r (q ∷ ps) a e = (q.number, ap (λ c. c || has q.number (numbers_of ps)) (eq-eqb q.number q.number refl))
 
-pub and_both : (a b : Bool) → a && b ≡ true → (a ≡ true) × (b ≡ true)
-and_both true b e = (refl, e)
-and_both false b e = absurd (true≢false (sym e))
-
 -- a view with all portions has all acts
 pub whole_book : (words : List ℕ) (views : List View) (h : Lawful words views) (id : ℕ) (v : View) → get_elem? views id ≡ some v → 0 < v.seats → IsWhole v → (r : ℕ) → act_in v r ≡ h.book r
 whole_book words views h id v at live whole r = by (h.book r) refl
@@ -222,9 +198,9 @@ whole_book words views h id v at live whole r = by (h.book r) refl
         let f = h.each (h.owner r) u.0 u.1 in
         let there : act_in u.0 r ≡ Some a = f.acts r ∙ when (nat_eq (h.owner r) (h.owner r)) (h.book r) None (eq-eqb (h.owner r) (h.owner r) refl) ∙ is in
         let k = a_number r u.0.portions a there in
-        let where_k = and_both (nat_lt k.0 h.seats) (nat_eq (h.home k.0) (h.owner r)) (sym (f.numbers k.0) ∙ k.1) in
+        let where_k = and_parts (nat_lt k.0 h.seats) (nat_eq (h.home k.0) (h.owner r)) (sym (f.numbers k.0) ∙ k.1) in
         let seats : v.seats ≡ h.seats = ((h.each id v at).plan live).1 in
-        let here = and_both (nat_lt k.0 h.seats) (nat_eq (h.home k.0) id) (sym ((h.each id v at).numbers k.0) ∙ whole k.0 (subst (λ n. k.0 < n) (sym seats) (ltb-true k.0 h.seats where_k.0))) in
+        let here = and_parts (nat_lt k.0 h.seats) (nat_eq (h.home k.0) id) (sym ((h.each id v at).numbers k.0) ∙ whole k.0 (subst (λ n. k.0 < n) (sym seats) (ltb-true k.0 h.seats where_k.0))) in
         sym (eqb-true (h.home k.0) (h.owner r) where_k.1) ∙ eqb-true (h.home k.0) id here.1
 
     by : (o : Option Act) → h.book r ≡ o → act_in v r ≡ h.book r
@@ -239,11 +215,7 @@ whole_state words views h id v r at live whole low =
 
 -- whose act it is
 owned : (words : List ℕ) (views : List View) (h : Lawful words views) (id : ℕ) (v : View) (r : ℕ) (a : Act) → get_elem? views id ≡ some v → act_in v r ≡ Some a → (h.owner r ≡ id) × (h.book r ≡ Some a)
-owned words views h id v r a at mine = by (nat_eq (h.owner r) id) refl (sym ((h.each id v at).acts r) ∙ mine)
-  where
-    by : (c : Bool) → nat_eq (h.owner r) id ≡ c → cond c (h.book r) None ≡ Some a → (h.owner r ≡ id) × (h.book r ≡ Some a)
-    by true is e = (eqb-true (h.owner r) id is, e)
-    by false is e = absurd (cc)
+owned words views h id v r a at mine = cond_owner (h.owner r) id (h.book r) a (sym ((h.each id v at).acts r) ∙ mine)
 
 -- the act of r becomes f of what it was
 act_moves : (words new : List ℕ) (views : List View) (h : Lawful words views) (id : ℕ) (v w : View) (r : ℕ) (a : Act) (f : Act → Act) → get_elem? views id ≡ some v
@@ -265,28 +237,21 @@ act_moves words new views h id v w r a f at plan seats numbers mine acts cell lo
     (λ n. ap (λ o. cond (nat_eq (h.owner k) j) o None) (put_else h.book r (f a) k n)))
     cell long
     (λ k above. dite (ℕ_discrete k r)
-    (λ (e : k ≡ r). absurd (none_some (sym (h.inside k above) ∙ ap h.book e ∙ own.1)))
+    (λ (e : k ≡ r). absurd (none-some a (sym (h.inside k above) ∙ ap h.book e ∙ own.1)))
     (λ n. put_else h.book r (f a) k n ∙ h.inside k above))
     (still_filled h.book r (f a) (λ x. more (subst IsFilled own.1 x)))
     seen
     (λ k. subst (λ n. n ≤ 1) (sym (many k)) ((h.each id v at).once k))
     (λ k y e. dite (ℕ_discrete k r) (λ (z : k ≡ r). subst (λ i. h.owner i < length views) (sym z) (h.owned r a own.1)) (λ n. h.owned k y (sym (put_else h.book r (f a) k n) ∙ e)))
-  where
-    none_some : None ≡ Some a → ⊥
-    none_some e = cc
 
 pub act_of : (words : List ℕ) (views : List View) (h : Lawful words views) (r : ℕ) (a : Act) → h.book r ≡ Some a → (r < cells h.plan) × IsAct h.plan h.book r a
-act_of words views h r a is = let low : r < cells h.plan = lt_of_not-le (λ above. none_some (sym (h.inside r above) ∙ is)) in (low, subst (IsActIn h.plan h.book r) is (h.cell r low).act)
-  where
-    none_some : None ≡ Some a → ⊥
-    none_some e = cc
+act_of words views h r a is = let low : r < cells h.plan = lt_of_not-le (λ above. none-some a (sym (h.inside r above) ∙ is)) in (low, subst (IsActIn h.plan h.book r) is (h.cell r low).act)
 
 pub lt_more : (k w : ℕ) → k ≢ w → nat_lt k w ≡ nat_lt k (suc w)
-lt_more k w n = by (dec_le w k)
-  where
-    by : Dec (w ≤ k) → nat_lt k w ≡ nat_lt k (suc w)
-    by (yes d) = le-ltb k w d ∙ sym (le-ltb k (suc w) (omega arith))
-    by (no d) = lt-ltb k w (lt_of_not-le d) ∙ sym (lt-ltb k (suc w) (let l : k < w = lt_of_not-le d in omega arith))
+lt_more k w n = ⊎_elim
+    (λ (l : k < w). lt-ltb k w l ∙ sym (lt-ltb k (suc w) (omega arith)))
+    (λ (l : w ≤ k). le-ltb k w l ∙ sym (le-ltb k (suc w) (omega arith)))
+    (cases_lt k w)
 
 numbers_same : (f : Portion → Portion) (ps : List Portion) → ((q : Portion) → (f q).number ≡ q.number) → numbers_of (map f ps) ≡ numbers_of ps
 numbers_same f [] e = refl
@@ -367,7 +332,7 @@ fills slots id me r a live now mine unfilled all_written s h _ at small =
             whole = λ _. all_written;
           }))
           (length-set s.words i FILLED) (λ _. refl)
-          (All-append (λ k. IsFilled (b k)) v.seen (r ∷ []) (λ k d l. still_filled h.book r (fill_up a) (λ f. refl) _ ((h.each id v at).seen k d l)) (one (λ k. IsFilled (b k)) r (subst IsFilled (sym (put_here h.book r (fill_up a))) refl)))
+          (All-push (λ k. IsFilled (b k)) v.seen r (λ k d l. still_filled h.book r (fill_up a) (λ f. refl) _ ((h.each id v at).seen k d l)) (subst IsFilled (sym (put_here h.book r (fill_up a))) refl))
           (λ k. acts_for_changed r fill_up (λ _. refl) k v.portions)),
       refl,
     )
@@ -397,11 +362,11 @@ signs_one slots id me r t a live now mine full more next s h _ at small =
     let needed : has r (needs_at h.plan t) ≡ true = h.planned.converse r t low below ∙ depends in
     let order : r < t = h.planned.lower r t below needed in
     let not_yet : signs h.plan h.book r t ≡ false = ap (λ o. signed_in h.plan o r t) own.1 ∙ ap (λ z. z && has t (take a.signed deps)) full ∙ ap (λ k. has k (take a.signed deps)) next' ∙ has_not_yet deps a.signed more' (h.planned.dependents_once r) in
-    let now_signed : signs h.plan b r t ≡ true = ap (λ o. signed_in h.plan o r t) (put_here h.book r new_act) ∙ ap (λ z. z && has t (take (suc a.signed) deps)) full ∙ has_more t deps a.signed more' ∙ ap (λ z. has t (take a.signed deps) || z) (eq-eqb t (get_or deps a.signed 0) next') ∙ or_true_right (has t (take a.signed deps)) in
+    let now_signed : signs h.plan b r t ≡ true = ap (λ o. signed_in h.plan o r t) (put_here h.book r new_act) ∙ ap (λ z. z && has t (take (suc a.signed) deps)) full ∙ has_more t deps a.signed more' ∙ ap (λ z. has t (take a.signed deps) || z) (eq-eqb t (get_or deps a.signed 0) next') ∙ or-true (has t (take a.signed deps)) in
     let else_same : (q u : ℕ) → (q ≢ r) ⊎ (u ≢ t) → signs h.plan b q u ≡ signs h.plan h.book q u = λ q u apart. dite (ℕ_discrete q r)
     (λ (e : q ≡ r). ⊎_elim (λ (ne : q ≢ r). absurd (ne e))
     (λ (ne : u ≢ t). let F : ℕ → Type 0 = λ k. signs h.plan b k u ≡ signs h.plan h.book k u in subst F (sym e)
-    (ap (λ o. signed_in h.plan o r u) (put_here h.book r new_act) ∙ ap (λ z. a.filled && z) (has_more u deps a.signed more' ∙ ap (λ z. has u (take a.signed deps) || z) (ne_eqb u (get_or deps a.signed 0) (λ c. ne (c ∙ sym next'))) ∙ or_false (has u (take a.signed deps)))
+    (ap (λ o. signed_in h.plan o r u) (put_here h.book r new_act) ∙ ap (λ z. a.filled && z) (has_more u deps a.signed more' ∙ ap (λ z. has u (take a.signed deps) || z) (ne_eqb u (get_or deps a.signed 0) (λ c. ne (c ∙ sym next'))) ∙ or-false (has u (take a.signed deps)))
     ∙ ap (λ o. signed_in h.plan o r u) (sym own.1)))
     apart)
     (λ n'. ap (λ o. signed_in h.plan o q u) (put_else h.book r new_act q n')) in
@@ -445,28 +410,21 @@ signs_one slots id me r t a live now mine full more next s h _ at small =
       (refl, omega arith, few),
     )
   where
-    or_true_right : (c : Bool) → c || true ≡ true
-    or_true_right true = refl
-    or_true_right false = refl
-
     no_act : (o : Option Act) → IsActIn h.plan h.book t o → has r (needs_at h.plan t) ≡ true → signs h.plan h.book r t ≡ false → o ≡ None
     no_act None x needed not_yet = refl
     no_act (Some y) x needed not_yet = absurd (true≢false (sym (x.needs r needed) ∙ not_yet))
 
-at_has : (P : ℕ → Type 0) (xs : List ℕ) (r : ℕ) → has r xs ≡ true → All P xs → P r
+all_at : (P : ℕ → Type 0) (xs : List ℕ) (r : ℕ) → has r xs ≡ true → All P xs → P r
 unfolding has
-at_has P [] r e h = absurd (true≢false (sym e))
-at_has P (x ∷ xs) r e h = dite (ℕ_discrete r x)
-    (λ (s : r ≡ x). subst P (sym s) (h 0 0 (omega arith)))
-    (λ n. at_has P xs r (sym (ap (λ c. c || has r xs) (ne_eqb r x n)) ∙ e) (λ k d l. h (suc k) d (omega arith)))
+all_at P [] r e h = absurd (true≢false (sym e))
+all_at P (x ∷ xs) r e h = ⊎_elim
+    (λ (s : nat_eq r x ≡ true). subst P (sym (eqb-true r x s)) (All-head P x xs h))
+    (λ s. all_at P xs r s (All-tail P x xs h))
+    (or_cases (nat_eq r x) (has r xs) e)
 
 signed_filled : (p : Planning) (o : Option Act) (q r : ℕ) → signed_in p o q r ≡ true → IsFilled o
 signed_filled p None q r e = absurd (true≢false (sym e))
-signed_filled p (Some a) q r e = both a.filled (has r (take a.signed (dependents_at p q))) e
-  where
-    both : (x y : Bool) → x && y ≡ true → x ≡ true
-    both true y e = refl
-    both false y e = e
+signed_filled p (Some a) q r e = (and_parts a.filled (has r (take a.signed (dependents_at p q))) e).0
 
 need_filled : (words : List ℕ) (views : List View) (h : Lawful words views) (r q : ℕ) (a : Act) → h.book r ≡ Some a → has q (needs_at h.plan r) ≡ true → IsFilled (h.book q)
 need_filled words views h r q a is e = signed_filled h.plan (h.book q) q r ((act_of words views h r a is).1.needs q e)
@@ -477,7 +435,7 @@ some_act (Some a) f = (a, refl, f)
 
 -- what a seat knows is filled
 pub known_filled : (words : List ℕ) (views : List View) (h : Lawful words views) (id : ℕ) (v : View) → get_elem? views id ≡ some v → 0 < v.seats → (r : ℕ) → Known v r → IsFilled (h.book r)
-known_filled words views h id v at live _ (by_sight r e) = at_has (λ k. IsFilled (h.book k)) v.seen r e (h.each id v at).seen
+known_filled words views h id v at live _ (by_sight r e) = all_at (λ k. IsFilled (h.book k)) v.seen r e (h.each id v at).seen
 known_filled words views h id v at live _ (by_holding r q holds e) = need_filled words views h r q holds.0 (owned words views h id v r holds.0 at holds.1).1 (subst (λ (p : Planning). has q (needs_at p r) ≡ true) (plan_is words views h id v at live) e)
 known_filled words views h id v at live _ (by_need r q k e) =
     let a = some_act (h.book r) (known_filled words views h id v at live r k) in
@@ -561,20 +519,10 @@ reads slots id me r k live knows low s h _ at small =
     )
 
 pub has_append : (r : ℕ) (xs ys : List ℕ) → has r xs ≡ true → has r (xs ++ ys) ≡ true
-unfolding has
-has_append r [] ys e = absurd (true≢false (sym e))
-has_append r (x ∷ xs) ys e = dite (ℕ_discrete r x)
-    (λ (s : r ≡ x). ap (λ c. c || has r (xs ++ ys)) (eq-eqb r x s))
-    (λ n. ap (λ c. c || has r (xs ++ ys)) (ne_eqb r x n) ∙ has_append r xs ys (sym (ap (λ c. c || has r xs) (ne_eqb r x n)) ∙ e))
+has_append r xs ys e = has-append r xs ys ∙ or_left (has r xs) (has r ys) e
 
 pub has_push : (r : ℕ) (xs : List ℕ) → has r (xs ++ r ∷ []) ≡ true
-unfolding has
-has_push r [] = ap (λ c. c || false) (eq-eqb r r refl)
-has_push r (x ∷ xs) = ap (λ c. nat_eq r x || c) (has_push r xs) ∙ or_true_right (nat_eq r x)
-  where
-    or_true_right : (c : Bool) → c || true ≡ true
-    or_true_right true = refl
-    or_true_right false = refl
+has_push r xs = has-append r xs (r ∷ []) ∙ or_right (has r xs) (has r (r ∷ [])) (has-one r r ∙ eq-eqb r r refl)
 
 seen_more : (b : Bool) (xs : List ℕ) (r k : ℕ) → has k xs ≡ true → has k (cond b (xs ++ r ∷ []) xs) ≡ true
 seen_more true xs r k e = has_append k xs (r ∷ []) e

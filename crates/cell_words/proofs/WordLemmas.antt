@@ -1,14 +1,13 @@
 -- An outcome comes back from its words.
-use Rattle.std.proofs.Common.{◌≡◌, ◌≢◌, ◌⊎◌, inl, inr, ℕ, suc, ◌+◌, ◌-◌, ◌*◌, ◌/◌, ◌%◌, ◌<◌, ◌^◌, refl, sym, ap, ap₂, ◌∙◌, arith, ℤ, pos, FitsSigned}
-use lib.IntN.{nat_abs}
+use Rattle.std.proofs.Common.{◌≡◌, ◌≢◌, ◌⊎◌, inl, inr, ℕ, suc, ◌+◌, ◌-◌, ◌*◌, ◌/◌, ◌%◌, ◌<◌, ◌^◌, refl, sym, ap, ap₂, ◌∙◌, arith, ℤ, pos, FitsSigned, nat_abs}
 use Rattle.std.specs.Int.{cast_unsigned, cast_signed}
 use Rattle.std.proofs.lemmas.Int.{to_z-of_z, fits_signed_from_abs}
 use mir.Syntax.{w128}
 use Rattle.airy_math.specs.Gcd.{gcd}
 use Rattle.airy_math.specs.Rational.{ℚ, ◌/ℚ◌, positive, coprime, parts_lem}
-use Rattle.amp_terms.specs.declared.Outcome.{Outcome}
-use Rattle.amp_terms.specs.declared.Outcome.TheVariants.{Value, Over, Blocked}
-use Rattle.cell_words.specs.Words.{first_number, second_number, low_word, high_word, word_of, IsSized}
+use Rattle.amp_terms.specs.declared.Outcome.TheVariants.{Value, Blocked}
+use Rattle.cell_words.proofs.Names.{Outcome, Over, word_of, IsSized}
+use Rattle.cell_words.specs.Words.{first_number, second_number, low_word, high_word}
 
 pos_zero : (n : ℕ) → pos n ≡ pos 0 → n ≡ 0
 pos_zero n e = ap nat_abs e

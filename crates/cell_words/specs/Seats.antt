@@ -21,7 +21,8 @@ seats_of b = b.base.seats
 abbrev pub carried_of : Countdown → List ℕ
 carried_of b = b.base.carried.items
 
--- the number of a seat, the rank that it holds, and its receipts: the ranks that it filled, in order
+-- the number of a seat, the rank that it holds, and its receipts: the ranks that it filled, in order. On a board that goes on from a table
+-- those of seat number 0 begin with the carried ranks, which count as filled and which no seat of this board wrote
 abbrev pub number_of : CountSeat → ℕ
 number_of s = s.number
 

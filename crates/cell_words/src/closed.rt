@@ -15,7 +15,8 @@ pub struct ResumeErr {
 }
 
 /// What a board leaves: its plan, the outcomes of the cells that were filled, and the ranks that each seat filled, by its number, where
-/// seats keep them.
+/// seats keep them. On a board that went on from a table the receipts of seat number 0 begin with the carried ranks, ascending, which
+/// count as filled and which no seat of this board wrote.
 #[derive(Drop)]
 pub struct Closed {
     pub plan: Plan,

@@ -64,7 +64,8 @@ impl CountSeat {
         self.held
     }
 
-    /// Its receipts: the ranks that it filled, in order.
+    /// Its receipts: the ranks that it filled, in order. On a board that goes on from a table those of seat number 0 begin with the carried
+    /// ranks, ascending, which count as filled and which no seat of this board wrote.
     pub fn done(&self) -> &[u32]
         ensures { result.now ≡ done_of self.now }
     {

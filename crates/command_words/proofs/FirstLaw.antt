@@ -1,175 +1,119 @@
 -- The first word that is refused.
-use Rattle.std.proofs.Common.{◌≡◌, ◌⊎◌, inl, inr, ℕ, zero, suc, ◌+◌, ◌<◌, ◌≤◌, Bool, true, false, List, [], ◌∷◌, ◌++◌, length, take, drop, refl, sym, ap, ◌∙◌, subst, arith}
-use Rattle.std.specs.Prelude.{cond, codes}
+use Rattle.std.proofs.Common.{◌≡◌, ◌⊎◌, inl, inr, ℕ, ◌+◌, Bool, true, false, List, [], ◌∷◌, length, refl, ap, ◌∙◌, Option, Some, None}
+use Rattle.std.specs.Prelude.{cond, codes, Result, Ok, Err}
 use Rattle.std.specs.Str.{bytes_eq}
-use Rattle.std.proofs.lemmas.List.{length-append, take-append-le, take-append-drop}
-use Rattle.std.proofs.lemmas.Bool.{cases_lt}
+use Rattle.airy_math.specs.declared.Family.TheVariants.{Wk}
 use Rattle.airy_math.specs.Keys.{key_of, ordered}
-use Rattle.command_words.specs.Words.{Reading, Table, Session, Probe, Relations, Number, Volume, Bulk, Refused, long_number, short_number, is_stable, settled, default_workers}
+use Rattle.command_words.specs.declared.line.Line.{Line}
+use Rattle.command_words.specs.Words.{Kind, Named, Reading, Table, Session, Probe, Relations, Number, Volume, Bulk, Refused, kind_of_word, family_of_word, long_number, short_number, is_stable, default_workers}
 use Rattle.command_words.specs.Scripts.{byte_of_word}
-use Rattle.command_words.specs.Options.{Parted, Options, behind_first, read_table, read_probe, read_session, read_relations, read_number, read_volume, read_bulk, worded_of, reading_of}
-use Rattle.command_words.specs.FirstRefused.{IsWorded, IsAccepted, BeginsOne, IsFirstRefused, RefusesFirst, FirstRefusedLaw}
-use Rattle.command_words.proofs.StopLemmas.{Fine, Stops, wrong, missing, behind, here, at_end, place_is, AlwaysStopped, Good, ends_good, kind_good, family_good, number_good, indices_good, script_good}
+use Rattle.command_words.specs.Options.{Parted, Options, parted, ends, goes_on, with_rest, reads, items, with_item, fault_of, script, script_by, read_table, read_probe, read_session, read_relations, read_number, read_volume, read_bulk, worded_of, reading_of}
+use Rattle.command_words.specs.FirstRefused.{refused_of, breaks, refuses, RefusesFirst, FirstRefusedLaw}
+use Rattle.command_words.proofs.RefusalLemmas.{Stops, Settles, finds_first}
+use Rattle.command_words.proofs.StopLemmas.{Good, IsPlain, place_good, end_good, good_along, err_of, err_with, items_good, script_good, Command, none, one, or_else, commands_stop}
+
+-- ---- the places
+
+place : {A : Type 0} (read : List ℕ → Option A) (f : A → Parted → Reading) (w : List ℕ) (x : A) → IsPlain w → read w ≡ Some x
+    → ((x : A) → Good (λ s. refused_of (f x s))) → Good (λ s. refused_of (reads read f s))
+place read f = place_good read (λ s. refused_of (reads read f s)) (λ x s. refused_of (f x s)) (record {
+  lacks = λ p w s e. ap (λ o. refused_of (goes_on (λ x. f x.0 x.1) (with_rest o p s))) e;
+  goes = λ p w s x e. ap (λ o. refused_of (goes_on (λ x. f x.0 x.1) (with_rest o p s))) e;
+  ends = λ p k. refl;
+  broken = λ p. refl;
+})
+
+kind : (f : Kind → Parted → Reading) → ((x : Kind) → Good (λ s. refused_of (f x s))) → Good (λ s. refused_of (reads kind_of_word f s))
+kind f = place kind_of_word f (codes "wk") (Named Wk) (λ may n. refl) refl
+
+number : (read : List ℕ → Option ℕ) → read (codes "1") ≡ Some 1 → (f : ℕ → Parted → Reading) → ((n : ℕ) → Good (λ s. refused_of (f n s)))
+    → Good (λ s. refused_of (reads read f s))
+number read is f = place read f (codes "1") 1 (λ may n. refl) is
+
+end : (f : ℕ → Reading) → ((n : ℕ) → refused_of (f n) ≡ None) → Good (λ s. refused_of (ends f s))
+end f fine = end_good (λ s. refused_of (ends f s)) (record { word = λ p w s. refl; fine = λ p k. fine k; broken = λ p. refl })
+
+indices : (d : ℕ) (f : List ℕ → Reading) → ((ds : List ℕ) → refused_of (f ds) ≡ None) → Good (λ s. refused_of (goes_on f (with_item d (items byte_of_word 25 s))))
+indices d f fine = good_along _ _ (items_good byte_of_word 25) (λ s. by (with_item d (items byte_of_word 25 s)) ∙ err_with d (items byte_of_word 25 s))
+  where
+    by : (r : Result (List ℕ) ℕ) → refused_of (goes_on f r) ≡ err_of r
+    by (Ok ds) = fine ds
+    by (Err p) = refl
+
+a_script : (k : Kind) (X : ℕ) → Good (λ s. refused_of (script X (Session k X) s))
+a_script k X = good_along _ _ (script_good X) (λ s. by _ _ (fault_of false false X s))
+  where
+    by : (n : ℕ) (lines : List Line) (o : Option ℕ) → refused_of (script_by o (Session k X n lines)) ≡ o
+    by n lines None = refl
+    by n lines (Some p) = refl
 
 -- ---- the commands
 
-table_good : Good read_table
-table_good = kind_good _ λ kind. number_good long_number refl _ λ X. ends_good (λ n. Table kind X n) (λ n k e. cc)
+table_good : Good (λ s. refused_of (read_table s))
+table_good = kind _ λ k. number long_number refl _ λ X. end (λ n. Table k X n) (λ n. refl)
 
-probe_good : Good read_probe
-probe_good = number_good long_number refl _ λ X. ends_good (λ n. Probe X n) (λ n k e. cc)
+probe_good : Good (λ s. refused_of (read_probe s))
+probe_good = number long_number refl _ λ X. end (λ n. Probe X n) (λ n. refl)
 
-session_good : Good read_session
-session_good = kind_good _ λ kind. number_good long_number refl _ λ X. script_good X (Session kind X) (λ n lines k e. cc)
+session_good : Good (λ s. refused_of (read_session s))
+session_good = kind _ λ k. number long_number refl _ λ X. a_script k X
 
-relations_good : Good read_relations
-relations_good = number_good (short_number 1 32) refl _ λ N. kind_good _ λ kind. ends_good (λ n. Relations N kind) (λ n k e. cc)
+relations_good : Good (λ s. refused_of (read_relations s))
+relations_good = number (short_number 1 32) refl _ λ N. kind _ λ k. end (λ n. Relations N k) (λ n. refl)
 
-number_is_good : Good read_number
-number_is_good = family_good _ λ family. number_good byte_of_word refl _ λ g. number_good byte_of_word refl _ λ d.
-    indices_good d 25 (λ ds. Number family (key_of g (ordered ds))) (λ ds k e. cc)
+number_good : Good (λ s. refused_of (read_number s))
+number_good = place family_of_word _ (codes "wk") Wk (λ may n. refl) refl λ family. number byte_of_word refl _ λ g. number byte_of_word refl _ λ d.
+    indices d (λ ds. Number family (key_of g (ordered ds))) (λ ds. refl)
 
-volume_good : Good read_volume
-volume_good = number_good byte_of_word refl _ λ g. number_good (short_number 1 26) refl _ λ n. ends_good (λ k. Volume g n) (λ n k e. cc)
+volume_good : Good (λ s. refused_of (read_volume s))
+volume_good = number byte_of_word refl _ λ g. number (short_number 1 26) refl _ λ n. end (λ k. Volume g n) (λ k. refl)
 
-bulk_good : Good read_bulk
-bulk_good = number_good long_number refl _ λ seed. number_good (short_number 1 8) refl _ λ dim. number_good long_number refl _ λ X. ends_good (λ n. Bulk seed dim X n) (λ n k e. cc)
+bulk_good : Good (λ s. refused_of (read_bulk s))
+bulk_good = number long_number refl _ λ seed. number (short_number 1 8) refl _ λ dim. number long_number refl _ λ X. end (λ n. Bulk seed dim X n) (λ n. refl)
 
--- a worded command line
-a_line : Fine (worded_of (codes "probe" ∷ codes "1" ∷ []))
+leads : (R : Parted → Reading) (lists : Bool) → Good (λ s. refused_of (R s)) → Command (λ xs. refused_of (R (parted (Options lists default_workers) 2 xs)))
+leads R lists good = one _ (Options lists default_workers) good (λ xs. refl)
+
+command : (w : List ℕ) → Command (λ xs. breaks (w ∷ xs))
 unfolding worded_of
-a_line k e = cc
+command w =
+    or_else refused_of (bytes_eq w (codes "table")) _ _ (leads read_table true table_good)
+    (or_else refused_of (bytes_eq w (codes "probe")) _ _ (leads read_probe true probe_good)
+    (or_else refused_of (bytes_eq w (codes "session")) _ _ (leads read_session true session_good)
+    (or_else refused_of (bytes_eq w (codes "relations")) _ _ (leads read_relations false relations_good)
+    (or_else refused_of (bytes_eq w (codes "number")) _ _ (leads read_number false number_good)
+    (or_else refused_of (bytes_eq w (codes "volume")) _ _ (leads read_volume false volume_good)
+    (or_else refused_of (bytes_eq w (codes "bulk")) _ _ (leads read_bulk true bulk_good) (none (λ xs. refl))))))))
 
--- what the first word leads to: a reader of the others, or nothing
-abbrev pub Command : List ℕ → Type 0
-Command w = ((xs : List (List ℕ)) → worded_of (w ∷ xs) ≡ Refused 1)
-    ⊎ ((R : Parted → Reading) × (lists : Bool) × ((xs : List (List ℕ)) → worded_of (w ∷ xs) ≡ R (behind_first lists xs)) × AlwaysStopped R)
-
-abbrev pub command_of : Bool → Bool → Bool → Bool → Bool → Bool → Bool → List (List ℕ) → Reading
-command_of a b c d e f g xs =
-    cond a (read_table (behind_first true xs)) (cond b (read_probe (behind_first true xs)) (cond c (read_session (behind_first true xs)) (cond d (read_relations (behind_first false xs))
-    (cond e (read_number (behind_first false xs)) (cond f (read_volume (behind_first false xs)) (cond g (read_bulk (behind_first true xs)) (Refused 1)))))))
-
-command : (w : List ℕ) → Command w
+stops : (ws : List (List ℕ)) (n : ℕ) → breaks ws ≡ Some n → Stops breaks 1 ws n
 unfolding worded_of
-command w = by (bytes_eq w (codes "table")) (bytes_eq w (codes "probe")) (bytes_eq w (codes "session")) (bytes_eq w (codes "relations")) (bytes_eq w (codes "number")) (bytes_eq w (codes "volume")) (bytes_eq w (codes "bulk")) (λ xs. refl)
-  where
-    by : (a b c d e f g : Bool) → ((xs : List (List ℕ)) → worded_of (w ∷ xs) ≡ command_of a b c d e f g xs) → Command w
-    by true b c d e f g is = inr (read_table, true, is, table_good.0)
-    by false true c d e f g is = inr (read_probe, true, is, probe_good.0)
-    by false false true d e f g is = inr (read_session, true, is, session_good.0)
-    by false false false true e f g is = inr (read_relations, false, is, relations_good.0)
-    by false false false false true f g is = inr (read_number, false, is, number_is_good.0)
-    by false false false false false true g is = inr (read_volume, false, is, volume_good.0)
-    by false false false false false false true is = inr (read_bulk, true, is, bulk_good.0)
-    by false false false false false false false is = inl is
+stops = commands_stop breaks (codes "probe" ∷ codes "1" ∷ []) refl refl command
 
-stops : (ws : List (List ℕ)) (n : ℕ) → worded_of ws ≡ Refused n → Stops worded_of 1 ws n
-unfolding worded_of
-stops [] n e = at_end worded_of 1 n (codes "probe" ∷ codes "1" ∷ []) e a_line
-stops (w ∷ ws) n e = by (command w)
-  where
-    by : Command w → Stops worded_of 1 (w ∷ ws) n
-    by (inl is) = here worded_of 1 n w ws (codes "probe" ∷ codes "1" ∷ []) (sym (is ws) ∙ e) a_line is
-    by (inr (R, lists, is, always)) = behind (λ xs. R (behind_first lists xs)) worded_of 1 n w ws is (always ws (Options lists default_workers) 2 n (sym (is ws) ∙ e))
+-- ---- what isn't stable
 
--- ---- beginnings
+-- words that ask for what isn't stable break no rule
+worded : (r : Reading) → is_stable r ≡ false → refused_of r ≡ None
+worded (Table k X n) is = refl
+worded (Probe X n) is = refl
+worded (Session k X n lines) is = refl
+worded (Relations N k) is = refl
+worded (Number family key) is = refl
+worded (Volume g n) is = refl
+worded (Bulk seed dim X n) is = refl
+worded (Refused p) is = cc
 
-part_again : (k : ℕ) (ws more : List (List ℕ)) → take k ws ++ (drop k ws ++ more) ≡ ws ++ more
-part_again zero ws more = refl
-part_again (suc k) [] more = refl
-part_again (suc k) (w ∷ ws) more = ap (λ x. w ∷ x) (part_again k ws more)
-
-take-one_more : (done rest more : List (List ℕ)) (w : List ℕ) → take (suc (length done)) (done ++ (w ∷ rest)) ++ more ≡ done ++ (w ∷ more)
-take-one_more [] rest more w = refl
-take-one_more (v ∷ done) rest more w = ap (λ x. v ∷ x) (take-one_more done rest more w)
-
-begins : (k : ℕ) (ws more : List (List ℕ)) → Fine (worded_of (ws ++ more)) → BeginsOne (take k ws)
-begins k ws more fine = (drop k ws ++ more, subst (λ x. Fine (worded_of x)) (sym (part_again k ws more)) fine)
-
-begins_worded : (k : ℕ) (ws : List (List ℕ)) → IsWorded ws → BeginsOne (take k ws)
-begins_worded k ws worded = (drop k ws, subst (λ x. IsWorded x) (sym (take-append-drop k ws)) worded)
-
-first_of : (ws : List (List ℕ)) (n : ℕ) → (IsAccepted ws → ⊥) → worded_of ws ≡ Refused n → Stops worded_of 1 ws n → IsFirstRefused ws n
-first_of ws n not e (missing place more fine) = record {
-  before = λ k h. begins k ws more fine;
-  within = λ h b. absurd (omega (arith, place, h));
-  missing = λ h. (omega (arith, place), not);
-}
-first_of ws n not e (wrong done w rest is place more fine all) = record {
-  before = λ k h. subst (λ x. BeginsOne x) (sym (ap (λ x. take k x) is ∙ take-append-le k done (w ∷ rest) (omega (arith, place, h)))) (begins k done more fine);
-  within = λ h b. b.1 n (ap (λ x. worded_of (x ++ b.0)) (begun (omega (arith, place))) ∙ ap worded_of (take-one_more done rest b.0 w) ∙ all b.0);
-  missing = λ h. absurd (omega (arith, place, h, ap length is, length-append done (w ∷ rest)));
-}
-  where
-    begun : n ≡ suc (length done) → take n ws ≡ take (suc (length done)) (done ++ (w ∷ rest))
-    begun m = ap (λ k. take k ws) m ∙ ap (λ x. take (suc (length done)) x) is
-
--- words that ask for what isn't stable are worded
-unstable_first : (ws : List (List ℕ)) (n : ℕ) → (IsAccepted ws → ⊥) → is_stable (worded_of ws) ≡ false → length ws + 1 ≡ n → IsFirstRefused ws n
-unstable_first ws n not is place = record {
-  before = λ k h. begins_worded k ws worded;
-  within = λ h b. absurd (omega (arith, place, h));
-  missing = λ h. (sym place, not);
-}
-  where
-    worded : IsWorded ws
-    worded m h = let no : true ≡ false = sym (ap is_stable h) ∙ is in cc
-
-first : (ws : List (List ℕ)) (n : ℕ) → reading_of ws ≡ Refused n → IsFirstRefused ws n
+settles : (ws : List (List ℕ)) → Settles breaks refuses ws
 unfolding reading_of
-first ws n e = by (is_stable (worded_of ws)) refl
+settles ws = by (is_stable (worded_of ws)) refl
   where
-    not : IsAccepted ws → ⊥
-    not accepted = accepted n e
-
-    settled_by : (b : Bool) → is_stable (worded_of ws) ≡ b → cond b (worded_of ws) (Refused (length ws + 1)) ≡ Refused n
-    settled_by b is = sym (ap (λ b. cond b (worded_of ws) (Refused (length ws + 1))) is) ∙ e
-
-    by : (b : Bool) → is_stable (worded_of ws) ≡ b → IsFirstRefused ws n
-    by true is = first_of ws n not (settled_by true is) (stops ws n (settled_by true is))
-    by false is = unstable_first ws n not is (place_is (length ws + 1) n (settled_by false is))
-
--- ---- there is one such number
-
-accepted_worded : (ws : List (List ℕ)) → IsAccepted ws → IsWorded ws
-unfolding reading_of
-accepted_worded ws accepted n e = accepted n (ap (settled (length ws + 1)) e)
-
-not_accepted : (ws : List (List ℕ)) (n : ℕ) → IsFirstRefused ws n → IsAccepted ws → ⊥
-not_accepted ws n is accepted = by (cases_lt (length ws) n)
-  where
-    by : (length ws < n) ⊎ (n ≤ length ws) → ⊥
-    by (inl more) = (is.missing more).1 accepted
-    by (inr h) = is.within h (begins_worded n ws (accepted_worded ws accepted))
-
-not_below : (ws : List (List ℕ)) (m n : ℕ) → IsFirstRefused ws m → IsFirstRefused ws n → m < n → ⊥
-not_below ws m n a b less = by (cases_lt (length ws) m)
-  where
-    by : (length ws < m) ⊎ (m ≤ length ws) → ⊥
-    by (inl more) = omega (arith, (a.missing more).0, (b.missing (omega (arith, more, less))).0, less)
-    by (inr h) = a.within h (b.before m less)
-
-one_first : (ws : List (List ℕ)) (m n : ℕ) → IsFirstRefused ws m → IsFirstRefused ws n → m ≡ n
-one_first ws m n a b = by (cases_lt m n) (cases_lt n m)
-  where
-    by : (m < n) ⊎ (n ≤ m) → (n < m) ⊎ (m ≤ n) → m ≡ n
-    by (inl less) o = absurd (not_below ws m n a b less)
-    by (inr h) (inl less) = absurd (not_below ws n m b a less)
-    by (inr h) (inr k) = omega (arith, h, k)
-
-refused : (ws : List (List ℕ)) (n : ℕ) → IsFirstRefused ws n → (r : Reading) → reading_of ws ≡ r → reading_of ws ≡ Refused n
-refused ws n is (Refused m) e = e ∙ ap Refused (one_first ws m n (first ws m e) is)
-refused ws n is (Table kind X workers) e = absurd (not_accepted ws n is (λ k h. cc))
-refused ws n is (Probe X workers) e = absurd (not_accepted ws n is (λ k h. cc))
-refused ws n is (Session kind X workers lines) e = absurd (not_accepted ws n is (λ k h. cc))
-refused ws n is (Relations N kind) e = absurd (not_accepted ws n is (λ k h. cc))
-refused ws n is (Number family key) e = absurd (not_accepted ws n is (λ k h. cc))
-refused ws n is (Volume g places) e = absurd (not_accepted ws n is (λ k h. cc))
-refused ws n is (Bulk seed dim X workers) e = absurd (not_accepted ws n is (λ k h. cc))
-
-pub first_refused : FirstRefusedLaw
-first_refused ws n = (first ws n, λ is. refused ws n is (reading_of ws) refl)
+    by : (b : Bool) → is_stable (worded_of ws) ≡ b
+        → (refused_of (cond b (worded_of ws) (Refused (length ws + 1))) ≡ breaks ws) ⊎ ((breaks ws ≡ None) × (refused_of (cond b (worded_of ws) (Refused (length ws + 1))) ≡ Some (length ws + 1)))
+    by true is = inl refl
+    by false is = inr (worded (worded_of ws) is, refl)
 
 pub refuses_first : (r : Reading) (ws : List (List ℕ)) → r ≡ reading_of ws → RefusesFirst r ws
-refuses_first r ws e = subst (λ x. RefusesFirst x ws) (sym e) (first_refused ws)
+unfolding RefusesFirst
+refuses_first r ws e = finds_first breaks refuses stops settles (refused_of r) ws (ap refused_of e)
+
+pub first_refused : FirstRefusedLaw
+first_refused ws = refuses_first (reading_of ws) ws refl

@@ -1,4 +1,5 @@
 pub mod ScriptLemmas
-mod StopLemmas
+pub mod RefusalLemmas
+pub mod StopLemmas
 mod FirstLaw
 mod StableLemmas

@@ -11,8 +11,8 @@ use Rattle.command_words.specs.Lines.{FinishesOnce, Rises}
 use Rattle.command_words.specs.Bounds.{is_bound, reach, IsReached, IsScript}
 use Rattle.command_words.specs.declared.line.Line.{Line}
 use Rattle.command_words.specs.declared.line.Line.TheVariants.{Ask, Finish, Grow}
-use Rattle.command_words.specs.Scripts.{ask_of_parts, byte_of_word, parts, line_of_word}
-use Rattle.command_words.specs.Options.{Parted, Next, End, Broken, with_index, read_index, indices, fault_by, fault_of, line_then, lines_of}
+use Rattle.command_words.specs.Scripts.{ask_of_parts, parts, line_of_word}
+use Rattle.command_words.specs.Options.{Parted, Next, End, Broken, with_item, read_item, items, fault_by, fault_of, line_then, lines_of}
 
 -- ---- a list, cut at the first of a letter
 
@@ -43,23 +43,23 @@ abbrev pub with_all : List ℕ → Option (List ℕ) → Option (List ℕ)
 with_all xs None = None
 with_all xs (Some ys) = Some (xs ++ ys)
 
--- indices that were read, and what is read of the words behind them
-abbrev pub with_read : List ℕ → Result (List ℕ) ℕ → Result (List ℕ) ℕ
+-- things that were read, and what is read of the words behind them
+abbrev pub with_read : {A : Type 0} → List A → Result (List A) ℕ → Result (List A) ℕ
 with_read xs (Ok ys) = Ok (xs ++ ys)
 with_read xs (Err place) = Err place
 
-with_next : (xs : List ℕ) (x : ℕ) (r : Result (List ℕ) ℕ) → with_read xs (with_index x r) ≡ with_read (xs ++ x ∷ []) r
+with_next : {A : Type 0} (xs : List A) (x : A) (r : Result (List A) ℕ) → with_read xs (with_item x r) ≡ with_read (xs ++ x ∷ []) r
 with_next xs x (Ok ys) = ap Ok (sym (append_assoc xs (x ∷ []) ys))
 with_next xs x (Err place) = refl
 
-pub read_more : (xs : List ℕ) (x : ℕ) (w : List ℕ) (place : ℕ) (s : Parted) → length xs < 26 → byte_of_word w ≡ Some x
-    → with_read xs (indices (Next place w s) (26 - length xs)) ≡ with_read (xs ++ x ∷ []) (indices s (26 - length (xs ++ x ∷ [])))
-read_more xs x w place s room is =
-    ap (λ n. with_read xs (indices (Next place w s) n)) (less (length-append xs (x ∷ [])))
-    ∙ ap (λ o. with_read xs (read_index o place (indices s (26 - length (xs ++ x ∷ []))))) is
-    ∙ with_next xs x (indices s (26 - length (xs ++ x ∷ [])))
+pub read_more : {A : Type 0} (read : List ℕ → Option A) (most : ℕ) (xs : List A) (x : A) (w : List ℕ) (place : ℕ) (s : Parted) → length xs < most → read w ≡ Some x
+    → with_read xs (items read (most - length xs) (Next place w s)) ≡ with_read (xs ++ x ∷ []) (items read (most - length (xs ++ x ∷ [])) s)
+read_more read most xs x w place s room is =
+    ap (λ n. with_read xs (items read n (Next place w s))) (less (length-append xs (x ∷ [])))
+    ∙ ap (λ o. with_read xs (read_item o place (items read (most - length (xs ++ x ∷ [])) s))) is
+    ∙ with_next xs x (items read (most - length (xs ++ x ∷ [])) s)
   where
-    less : length (xs ++ x ∷ []) ≡ length xs + 1 → 26 - length xs ≡ suc (26 - length (xs ++ x ∷ []))
+    less : length (xs ++ x ∷ []) ≡ length xs + 1 → most - length xs ≡ suc (most - length (xs ++ x ∷ []))
     less e = omega (arith, e, room)
 
 -- a word of four parts or more is no ask

@@ -1,21 +1,12 @@
 -- Keys and pairs that are stable.
-use Rattle.std.proofs.Common.{◌≡◌, ℕ, ◌+◌, ◌<◌, true, false, List, [], ◌∷◌, length, refl, ap, ◌∙◌, sym, arith, rules}
+use Rattle.std.proofs.Common.{◌≡◌, ℕ, ◌<◌, true, false, List, length, refl, ap, ◌∙◌, sym, rules}
 use Rattle.std.specs.Prelude.{nat_le, Result, Ok, Err, IfOk}
-use Rattle.airy_math.specs.Keys.{euler, ordered, ordered_with, insert}
-use Rattle.airy_math.proofs.CutLaw.{length-insert}
+use Rattle.airy_math.specs.Keys.{euler, ordered}
+use Rattle.airy_math.proofs.CutLaw.{length-ordered}
 use Rattle.command_words.specs.declared.asked.Asked.{Asked}
 use Rattle.command_words.specs.declared.asked.Asked.TheVariants as asked
 use Rattle.command_words.specs.Words.{Reading, settled, is_stable}
 use Rattle.command_words.specs.Asked.{reading, reading_by, IsFit}
-
-length-ordered_with : (done xs : List ℕ) → length (ordered_with done xs) ≡ length done + length xs
-unfolding ordered_with
-length-ordered_with done [] = omega arith
-length-ordered_with done (x ∷ xs) = omega (arith, length-ordered_with (insert x done) xs, length-insert x done)
-
-length-ordered : (xs : List ℕ) → length (ordered xs) ≡ length xs
-unfolding ordered
-length-ordered xs = omega (arith, length-ordered_with [] xs)
 
 stable_test : (e : ℕ) → 0 < e → nat_le 1 e ≡ true
 stable_test e h = search rules

@@ -6,4 +6,5 @@ pub mod Scripts
 pub mod Options
 pub mod Asked
 pub mod OptionExamples
+pub mod Refusals
 pub mod FirstRefused

@@ -70,7 +70,8 @@ long_growth : reading_of (codes "session" ∷ codes "wk" ∷ codes "2" ∷ codes
 unfolding words_compute
 long_growth = refl
 
-finish_twice_behind : reading_of (codes "session" ∷ codes "wk" ∷ codes "1" ∷ codes "grow:2" ∷ codes "finish" ∷ codes "finish" ∷ []) ≡ Refused 6
+finish_twice_behind : reading_of (codes "session" ∷ codes "wk" ∷ codes "1" ∷ codes "grow:2" ∷ codes "finish" ∷ codes "finish" ∷ [])
+    ≡ Refused 6
 unfolding words_compute
 finish_twice_behind = refl
 

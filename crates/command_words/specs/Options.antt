@@ -110,23 +110,23 @@ next_read read (Broken place) = Err place
 abbrev pub reads : {A : Type 0} → (List ℕ → Option A) → (A → Parted → Reading) → Parted → Reading
 reads read f s = goes_on (λ x. f x.0 x.1) (next_read read s)
 
--- ---- indices
+-- ---- words up to the end
 
--- one index before others
-abbrev pub with_index : ℕ → Result (List ℕ) ℕ → Result (List ℕ) ℕ
-with_index d (Ok ds) = Ok (d ∷ ds)
-with_index d (Err place) = Err place
+-- one thing before others
+abbrev pub with_item : {A : Type 0} → A → Result (List A) ℕ → Result (List A) ℕ
+with_item x (Ok xs) = Ok (x ∷ xs)
+with_item x (Err place) = Err place
 
-abbrev pub read_index : Option ℕ → ℕ → Result (List ℕ) ℕ → Result (List ℕ) ℕ
-read_index None place behind = Err place
-read_index (Some d) place behind = with_index d behind
+abbrev pub read_item : {A : Type 0} → Option A → ℕ → Result (List A) ℕ → Result (List A) ℕ
+read_item None place behind = Err place
+read_item (Some x) place behind = with_item x behind
 
--- indices up to the end, at most so many
-abbrev pub indices : Parted → ℕ → Result (List ℕ) ℕ
-indices (Next place w s) zero = Err place
-indices (Next place w s) (suc room) = read_index (byte_of_word w) place (indices s room)
-indices (End place n) room = Ok []
-indices (Broken place) room = Err place
+-- the plain words up to the end as they are read, at most so many
+abbrev pub items : {A : Type 0} → (List ℕ → Option A) → ℕ → Parted → Result (List A) ℕ
+items read room (End place n) = Ok []
+items read room (Broken place) = Err place
+items read zero (Next place w s) = Err place
+items read (suc room) (Next place w s) = read_item (read w) place (items read room s)
 
 -- ---- scripts
 
@@ -188,7 +188,7 @@ read_relations = reads (short_number 1 32) λ N. reads kind_of_word λ kind. end
 -- one index or more, and at most 26
 abbrev pub read_number : Parted → Reading
 read_number = reads family_of_word λ family. reads byte_of_word λ g. reads byte_of_word λ d s.
-    goes_on (λ ds. Number family (key_of g (ordered ds))) (with_index d (indices s 25))
+    goes_on (λ ds. Number family (key_of g (ordered ds))) (with_item d (items byte_of_word 25 s))
 
 abbrev pub read_volume : Parted → Reading
 read_volume = reads byte_of_word λ g. reads (short_number 1 26) λ n. ends λ k. Volume g n

@@ -1,6 +1,7 @@
 ghost use Rattle.std.specs.Prelude.{◌≡◌, ◌≢◌, ◌≤◌, ◌<◌, ◌^◌, length, IfOk, IfSome, option_map};
 ghost use Rattle.command_words.specs.Words.{family_of_word, kind_of_word, long_number, short_number};
-ghost use Rattle.command_words.specs.Options.{ended, indices, next_read, with_index};
+ghost use Rattle.command_words.specs.Scripts.{byte_of_word};
+ghost use Rattle.command_words.specs.Options.{ended, items, next_read, with_item};
 ghost use Rattle.command_words.specs.Asked.{kind_of, parted_of, taken, whole, IsCrew, IsLeft};
 
 use crate::asked::Kind;
@@ -103,7 +104,7 @@ pub(crate) fn ends(left: Left<'_>) -> Result<u8, usize>
 /// The index that was read, and those of all words that are left, which are at most 25.
 pub(crate) fn last_indices(first: u8, left: Left<'_>) -> Result<ArrayVec<u8, 26>, usize>
     requires { IsLeft left }
-    ensures read { whole (λ v. v.items) result ≡ with_index first (indices (parted_of left.entry) 25) }
+    ensures read { whole (λ v. v.items) result ≡ with_item first (items byte_of_word 25 (parted_of left.entry)) }
     ensures some { IfOk result (λ v. (0 < length v.items) × (length v.items ≤ 26)) }
 {
     let mut idx = ArrayVec::new();

@@ -1,10 +1,5 @@
-pub mod NamedRanks
 pub mod FullTables
-pub mod PivotFacts
-pub mod EqualNumbers
-pub mod OtherPivots
-pub mod PivotsLeft
-pub mod KeysLeft
+pub mod StepLemmas
 pub mod FirstOver
 pub mod PieceLemmas
 pub mod EndLaws

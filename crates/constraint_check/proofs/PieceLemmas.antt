@@ -1,7 +1,6 @@
 -- The pieces into which the ranks are cut.
-use Rattle.std.proofs.Common.{◌≡◌, ℕ, ◌+◌, ◌/◌, ◌%◌, ◌<◌, ◌≤◌, arith}
+use Rattle.std.proofs.Common.{◌≡◌, ℕ, ◌+◌, ◌/◌, ◌%◌, ◌<◌, ◌≤◌, arith, min}
 use Rattle.std.proofs.Math.Nat.{div-add-mod, mod-lt, min-le_left, min-le_right, min-eq_right, le-min, mul-le-mul_right}
-use Rattle.std.specs.Prelude.{min}
 use Rattle.constraint_check.specs.Pivots.{cut_at}
 
 module _ (len n : ℕ) where

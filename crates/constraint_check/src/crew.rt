@@ -7,10 +7,10 @@ ghost use Rattle.constraint_check.specs.Ends.{verdict_from};
 ghost use Rattle.constraint_check.specs.Checked.{IsChecked};
 
 use crate::CheckEnd;
-use crate::keys::{check_passed, key_value};
-use crate::pivots::{PivotsEnd, check_pivots};
+use crate::keys::check_passed;
+use crate::pivots::{Pivots, first_failing};
 use amp_plan::Plan;
-use amp_terms::Table;
+use amp_terms::{Table, TableOutcomes};
 use std::alloc::{AllocError, Global};
 use std::thread;
 use std::thread::Threads;
@@ -97,16 +97,10 @@ fn pass(plan: &Plan, table: &Table, from: u32, to: u32) -> u32
     requires to { to ≤ length (keys_of plan.now) }
     ensures { PassTo plan.now from to result }
 {
-    airy_math::planned_once();
-    for rank in from..to {
-        let key = plan.key(rank);
-        let value = key_value(plan, table, rank);
-        match check_pivots(plan, table, &key, value) {
-            PivotsEnd::Agree => {}
-            PivotsEnd::Over { pivot: _ } | PivotsEnd::Differ { pivot: _, sum: _ } => return rank,
-        }
+    match first_failing(plan, &mut TableOutcomes { table }, from, to, Pivots::Others) {
+        None => to,
+        Some(failure) => failure.rank,
     }
-    to
 }
 
 /// The rank at which a piece begins, where so many ranks are cut into pieces whose lengths differ by at most 1.

@@ -1,16 +1,15 @@
-ghost use Rattle.std.specs.Prelude.{◌≡◌, ◌<◌, ◌≤◌, length};
-ghost use Rattle.amp_plan.specs.Plans.{tensors_of, keys_of, key_at};
+ghost use Rattle.std.specs.Prelude.{◌≡◌, ◌≤◌, length};
+ghost use Rattle.amp_plan.specs.Plans.{tensors_of, keys_of};
 ghost use Rattle.amp_terms.specs.Tables.{full_table};
 ghost use Rattle.series_law.specs.Check.{check};
-ghost use Rattle.constraint_check.specs.Pivots.{HoldsValues, HasPassed};
-ghost use Rattle.constraint_check.specs.Ends.{outcomes_of, values_of, verdict_from, Tells, NamesOver};
+ghost use Rattle.constraint_check.specs.Pivots.{HoldsValues, HasPassed, Names};
+ghost use Rattle.constraint_check.specs.Ends.{outcomes_of, verdict_from, Tells, NamesOver};
 ghost use Rattle.constraint_check.specs.Checked.{IsChecked};
 
 use crate::CheckEnd;
-use crate::pivots::{PivotsEnd, check_pivots};
+use crate::pivots::{Failure, Pivots, first_failing};
 use amp_plan::Plan;
-use amp_terms::Table;
-use frac128::Frac;
+use amp_terms::{Table, TableOutcomes};
 
 /// The check of every pivot of a table that holds the outcome of each rank of the plan. In the recursion of Kontsevich and
 /// Soibelman, and of Andersen, Borot, Chekhov and Orantin, any index of a key can play the part of the pivot, and the amplitudes of a
@@ -51,7 +50,7 @@ fn first_failure(plan: &Plan, table: &Table, passed: u32) -> CheckEnd
     ensures over { NamesOver plan.now table.now result }
 {
     airy_math::planned_once();
-    airy_math::ranks();
+    plan.needs_fact();
     if let Some(rank) = table.first_not_value() {
         return CheckEnd::NotValue {
             key: plan.key(rank),
@@ -68,33 +67,40 @@ fn check_keys(plan: &Plan, table: &Table, from: u32) -> CheckEnd
     ensures verdict { Tells plan.now result (verdict_from plan.now from) }
     ensures over { NamesOver plan.now table.now result }
 {
-    airy_math::planned_once();
-    for rank in from..plan.len() {
-        let key = plan.key(rank);
-        let value = key_value(plan, table, rank);
-        match check_pivots(plan, table, &key, value) {
-            PivotsEnd::Agree => {}
-            PivotsEnd::Over { pivot } => return CheckEnd::Over { key, pivot },
-            PivotsEnd::Differ { pivot, sum } => {
-                return CheckEnd::Orders {
-                    first: key.idx()[0],
-                    v1: value,
-                    second: pivot,
-                    v2: sum,
-                    key,
-                };
+    match first_failing(
+        plan,
+        &mut TableOutcomes { table },
+        from,
+        plan.len(),
+        Pivots::Others,
+    ) {
+        None => CheckEnd::Solution,
+        Some(failure) => failed(failure),
+    }
+}
+
+/// What is said of a key that fails.
+fn failed(failure: Failure) -> CheckEnd
+    ensures { Names result failure }
+{
+    let Failure {
+        rank: _,
+        key,
+        value,
+        pivot,
+        sum,
+    } = failure;
+    match sum {
+        None => CheckEnd::Over { key, pivot },
+        Some(sum) => {
+            key.validity_fact();
+            CheckEnd::Orders {
+                first: key.idx()[0],
+                v1: value,
+                second: pivot,
+                v2: sum,
+                key,
             }
         }
     }
-    CheckEnd::Solution
-}
-
-/// The Value of a rank in a table of Values.
-pub(crate) fn key_value(plan: &Plan, table: &Table, rank: u32) -> Frac
-    requires values { HoldsValues plan.now table.now }
-    requires rank { rank < length (keys_of plan.now) }
-    ensures { result ≡ values_of plan.now (key_at plan.now rank) }
-{
-    airy_math::planned_once();
-    table.value(rank).unwrap()
 }

@@ -9,6 +9,7 @@ mod pivots;
 pub use crew::check_crew;
 pub use ends::CheckEnd;
 pub use keys::check_table;
+pub use pivots::{Failure, Pivots, first_failing};
 
 #[cfg(test)]
 mod tests;

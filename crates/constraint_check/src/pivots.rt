@@ -1,69 +1,161 @@
-ghost use Rattle.std.specs.Prelude.{◌≡◌, ◌<◌};
+ghost use Rattle.std.specs.Prelude.{◌≡◌, ◌+◌, ◌<◌, ◌≤◌, false, None, get_or, length};
 ghost use Rattle.airy_math.specs.Keys.{times};
 ghost use Rattle.airy_math.specs.Planned.{IsPlanned};
-ghost use Rattle.amp_plan.specs.Plans.{tensors_of};
-ghost use Rattle.series_law.specs.Check.{other_pivots, judged, check_pivots};
-ghost use Rattle.constraint_check.specs.Ends.{values_of};
-ghost use Rattle.constraint_check.specs.Pivots.{HoldsValues, EndSo, obtained_at};
+ghost use Rattle.airy_math.specs.Terms.{obtained_pivot_sum};
+ghost use Rattle.amp_plan.specs.Plans.{tensors_of, keys_of, key_at};
+ghost use Rattle.series_law.specs.Scans.{judged, failing_pivot};
+ghost use Rattle.constraint_check.specs.Pivots.{ShowsValues, numbers_shown, looks, FailsFirst};
 
 use airy_index::Key;
 use amp_plan::Plan;
-use amp_terms::{Table, TableOutcomes, pivot_value};
+use amp_terms::{Seen, names_ranks, pivot_value};
 use frac128::Frac;
 
-/// How the pivots of one key end.
+/// Which indices of a key are looked at.
 #[derive(Clone, Copy)]
-pub(crate) enum PivotsEnd {
-    /// Each sum is the key's Value.
-    Agree,
-    /// The sum at this index leaves the range.
-    Over { pivot: u8 },
-    /// The sum at this index is another number than the key's Value.
-    Differ { pivot: u8, sum: Frac },
+pub enum Pivots {
+    /// Each.
+    All,
+    /// Each above the least.
+    Others,
 }
 
-/// The pivot sum of a key at one of its indices over a table of Values, where it stays in range.
-fn pivot_sum(plan: &Plan, table: &Table, key: &Key, pivot: u8) -> Option<Frac>
-    requires values { HoldsValues plan.now table.now }
-    requires planned { IsPlanned (tensors_of plan.now) plan.now.bound key.now }
-    requires pivot { 0 < times pivot key.now.idx }
-    ensures { result ≡ obtained_at plan.now key.now pivot }
+/// A key with a pivot that fails, its first that does.
+#[derive(Drop)]
+pub struct Failure {
+    pub rank: u32,
+    pub key: Key,
+    /// The value of the key.
+    pub value: Frac,
+    /// The index.
+    pub pivot: u8,
+    /// The key's pivot sum with it, another number than the value; none where a step leaves the range.
+    pub sum: Option<Frac>,
+}
+
+/// The value that is shown of a rank.
+fn shown_value<S: Seen>(plan: &Plan, seen: &mut S, rank: u32) -> Frac
+    requires shows { ShowsValues plan.now (S.has seen.old) (S.shown seen.old) }
+    requires rank { rank < length (keys_of plan.now) }
+    ensures value { result ≡ numbers_shown plan.now (S.shown seen.old) (key_at plan.now rank) }
+    ensures shows { ShowsValues plan.now (S.has seen.new) (S.shown seen.new) }
+    ensures same { S.shown seen.new ≡ S.shown seen.old }
 {
     airy_math::planned_once();
-    airy_math::ranks();
-    let mut outcomes = TableOutcomes { table };
-    pivot_value(plan, key, pivot, &mut outcomes).value()
+    seen.at(rank).value().unwrap()
 }
 
-/// The pivot sum of a key at one of its indices, against the key's Value.
-fn check_pivot(plan: &Plan, table: &Table, key: &Key, value: Frac, pivot: u8) -> PivotsEnd
-    requires values { HoldsValues plan.now table.now }
+/// The pivot sum of a key at one of its indices over the values that are shown, where it stays in range.
+fn pivot_sum<S: Seen>(plan: &Plan, seen: &mut S, key: &Key, pivot: u8) -> Option<Frac>
+    requires shows { ShowsValues plan.now (S.has seen.old) (S.shown seen.old) }
     requires planned { IsPlanned (tensors_of plan.now) plan.now.bound key.now }
     requires pivot { 0 < times pivot key.now.idx }
-    ensures { EndSo key.now value (judged key.now value pivot (obtained_at plan.now key.now pivot)) result }
+    ensures sum { result ≡ obtained_pivot_sum (tensors_of plan.now) (numbers_shown plan.now (S.shown seen.old)) key.now pivot }
+    ensures shows { ShowsValues plan.now (S.has seen.new) (S.shown seen.new) }
+    ensures same { S.shown seen.new ≡ S.shown seen.old }
 {
-    match pivot_sum(plan, table, key, pivot) {
-        None => PivotsEnd::Over { pivot },
-        Some(sum) if sum == value => PivotsEnd::Agree,
-        Some(sum) => PivotsEnd::Differ { pivot, sum },
+    names_ranks(plan, key, pivot);
+    pivot_value(plan, key, pivot, seen).value()
+}
+
+/// The pivot and the pivot sum of a key at it, where this isn't the key's value.
+fn check_pivot<S: Seen>(
+    plan: &Plan,
+    seen: &mut S,
+    key: &Key,
+    value: Frac,
+    pivot: u8,
+) -> Option<(u8, Option<Frac>)>
+    requires shows { ShowsValues plan.now (S.has seen.old) (S.shown seen.old) }
+    requires planned { IsPlanned (tensors_of plan.now) plan.now.bound key.now }
+    requires pivot { 0 < times pivot key.now.idx }
+    ensures fails { let sum = obtained_pivot_sum (tensors_of plan.now) (numbers_shown plan.now (S.shown seen.old)) key.now pivot in
+        result ≡ judged value pivot sum None }
+    ensures shows { ShowsValues plan.now (S.has seen.new) (S.shown seen.new) }
+    ensures same { S.shown seen.new ≡ S.shown seen.old }
+{
+    match pivot_sum(plan, seen, key, pivot) {
+        None => Some((pivot, None)),
+        Some(sum) if sum == value => None,
+        Some(sum) => Some((pivot, Some(sum))),
     }
 }
 
-/// The pivot sums of a key at its distinct indices above the least, ascending, against the key's Value: the first that fails.
-pub(crate) fn check_pivots(plan: &Plan, table: &Table, key: &Key, value: Frac) -> PivotsEnd
-    requires values { HoldsValues plan.now table.now }
+/// Whether an index of a key is one that is looked at.
+#[tactic(auto, unfolding(series_law::specs::Scans::every, series_law::specs::Scans::above_least), using(crate::proofs::StepLemmas::first_is_head))]
+fn is_pivot(key: &Key, index: u8, pivots: Pivots) -> bool
+    ensures { result ≡ looks pivots key.now index }
+{
+    match pivots {
+        Pivots::All => true,
+        Pivots::Others => {
+            key.validity_fact();
+            key.idx()[0] < index
+        }
+    }
+}
+
+/// Whether the index at a place differs from the next one, or is the last of all.
+fn is_last(indices: &[u8], at: usize) -> bool
+    requires { at < length indices.now }
+    ensures { result ≡ false → (at + 1 < length indices.now) × (get_or indices.now (at + 1) 0 ≡ get_or indices.now at 0) }
+{
+    at + 1 == indices.len() || indices[at + 1] != indices[at]
+}
+
+/// The first of the pivots of a key that fails, in ascending order.
+fn check_key<S: Seen>(
+    plan: &Plan,
+    seen: &mut S,
+    key: &Key,
+    value: Frac,
+    pivots: Pivots,
+) -> Option<(u8, Option<Frac>)>
+    requires shows { ShowsValues plan.now (S.has seen.old) (S.shown seen.old) }
     requires planned { IsPlanned (tensors_of plan.now) plan.now.bound key.now }
-    requires value { value ≡ values_of plan.now key.now }
-    ensures { EndSo key.now value (check_pivots (tensors_of plan.now) (values_of plan.now) key.now (other_pivots key.now)) result }
+    requires value { value ≡ numbers_shown plan.now (S.shown seen.old) key.now }
+    ensures fails { result ≡ failing_pivot (tensors_of plan.now) (numbers_shown plan.now (S.shown seen.old)) (looks pivots) key.now key.now.idx }
+    ensures shows { ShowsValues plan.now (S.has seen.new) (S.shown seen.new) }
+    ensures same { S.shown seen.new ≡ S.shown seen.old }
 {
     let indices = key.idx();
-    for at in 1..indices.len() {
-        if indices[at] != indices[at - 1] {
-            match check_pivot(plan, table, key, value, indices[at]) {
-                PivotsEnd::Agree => {}
-                end => return end,
+    for at in 0..indices.len() {
+        if is_pivot(key, indices[at], pivots) && is_last(indices, at) {
+            if let Some(failing) = check_pivot(plan, seen, key, value, indices[at]) {
+                return Some(failing);
             }
         }
     }
-    PivotsEnd::Agree
+    None
+}
+
+/// The first of the ranks from one to another whose key has a pivot that fails, where each rank of the plan is shown with a Value: its
+/// pivot sum leaves the range, or is another number than the key's value.
+pub fn first_failing<S: Seen>(
+    plan: &Plan,
+    seen: &mut S,
+    from: u32,
+    to: u32,
+    pivots: Pivots,
+) -> Option<Failure>
+    requires shows { ShowsValues plan.now (S.has seen.old) (S.shown seen.old) }
+    requires from { from ≤ to }
+    requires to { to ≤ length (keys_of plan.now) }
+    ensures { FailsFirst plan.now (numbers_shown plan.now (S.shown seen.old)) (looks pivots) from to result }
+{
+    airy_math::planned_once();
+    for rank in from..to {
+        let key = plan.key(rank);
+        let value = shown_value(plan, seen, rank);
+        if let Some((pivot, sum)) = check_key(plan, seen, &key, value, pivots) {
+            return Some(Failure {
+                rank,
+                key,
+                value,
+                pivot,
+                sum,
+            });
+        }
+    }
+    None
 }

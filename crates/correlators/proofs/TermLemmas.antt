@@ -15,7 +15,7 @@ use Rattle.airy_math.specs.Shapes.{covers, law_number}
 use Rattle.airy_math.specs.Families.{wp_shape}
 use Rattle.airy_math.specs.Ranks.{ListsPlanned}
 use Rattle.airy_math.specs.Tensors.{is_zero}
-use Rattle.airy_math.proofs.CutLaw.{total-insert}
+use Rattle.airy_math.proofs.CutLaw.{total-insert, length-ordered}
 use Rattle.airy_math.proofs.KeyLemmas.{append-nil}
 use Rattle.airy_index.specs.Fields.{IsKey}
 use Rattle.sparse_tensor.proofs.SoundLaw.{is_zero-0ℚ, is_zero-some}
@@ -23,7 +23,6 @@ use Rattle.amp_plan.specs.Plans.{Planning, tensors_of, keys_of, rank_at}
 use Rattle.amp_plan.specs.Places.{place_in, are_below, letter_power}
 use Rattle.amp_plan.specs.declared.place.Place.TheVariants.{At, Zero, Beyond, BadIndex}
 use Rattle.amp_plan.proofs.PlaceLemmas.{rank_within, key_of_rank}
-use Rattle.amp_plan.proofs.RankWalkLemmas.{length-ordered}
 use Rattle.amp_terms.specs.declared.Outcome.{Outcome}
 use Rattle.correlators.specs.declared.polynomial.Term.{Term}
 use Rattle.correlators.specs.Volumes.{Part, part, table_term, term_of, parts_of, is_of, coefficient_of, greatest_sum}

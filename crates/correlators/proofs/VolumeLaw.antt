@@ -20,7 +20,6 @@ use Rattle.airy_index.specs.Fields.{IsKey}
 use Rattle.sparse_tensor.specs.Entries.{looked_up}
 use Rattle.amp_plan.specs.Plans.{Planning, tensors_of, keys_of, rank_at}
 use Rattle.amp_plan.specs.Places.{are_below, letter_power}
-use Rattle.amp_plan.proofs.RankWalkLemmas.{length-ordered}
 use Rattle.amp_terms.specs.declared.Outcome.{Outcome}
 use Rattle.series_law.specs.Amplitudes.{HoldsOutcomes}
 use Rattle.intersection_law.specs.Numbers.{volume_coefficient, length_factorials}
@@ -35,6 +34,7 @@ use Rattle.correlators.proofs.ListedLemmas.{doubled_same, listed_up_to}
 use Rattle.correlators.proofs.NumberLaw.{amplitude_there}
 use Rattle.correlators.proofs.OrderLemmas.{exponents-ordered, factorials-ordered, sorted-ordered}
 use Rattle.correlators.proofs.TermLemmas.{below_all, total-ordered, covers_wp, placed, coefficient_at}
+use Rattle.airy_math.proofs.CutLaw.{length-ordered}
 
 -- the terms that were added behind none are those of the volume
 pub terms_are : (p : Planning) (cells : List (Option Outcome)) (g n : ℕ) (numbers same : List ℚ) (terms : List Term) → AddsTerms p g n numbers (lists_up_to n (greatest_sum g n)) [] terms

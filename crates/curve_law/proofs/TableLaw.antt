@@ -16,6 +16,7 @@ use Rattle.airy_math.specs.Solutions.{Solves, factorials}
 use Rattle.airy_math.specs.Tensors.{Tensors, SameEntries}
 use Rattle.airy_math.proofs.BelowDimLaw.{below_dim}
 use Rattle.airy_math.proofs.ExactLaw.{power-one}
+use Rattle.airy_math.proofs.FamilyLaw.{curve_symmetric}
 use Rattle.airy_math.proofs.FamilyPlans.{le_self}
 use Rattle.airy_math.proofs.PowerLemmas.{power_none}
 use Rattle.amp_terms.specs.declared.Outcome.{Outcome}
@@ -27,19 +28,13 @@ use Rattle.series_law.specs.Pivots.{Shown, series_with}
 use Rattle.series_law.specs.SameTables.{SameTables}
 use Rattle.series_law.specs.Uniqueness.{series_of}
 use Rattle.series_law.proofs.CheckLaw.{check_law, two_orders}
-use Rattle.series_law.proofs.JobLaw.{one_times}
+use Rattle.series_law.proofs.JobLaw.{one_times, without_letter}
 use Rattle.series_law.proofs.PivotsLaw.{cut_uniqueness, cut_solution, cut_orders}
 use Rattle.series_law.proofs.SameTablesLaw.{same_tables}
-use Rattle.airy_curve.specs.Curve.{curve}
-use Rattle.airy_curve.specs.Cuts.{whole_curve, IsCurveCut}
+use Rattle.airy_math.specs.Curves.{curve, whole_curve}
+use Rattle.airy_curve.specs.Cuts.{IsCurveCut}
 use Rattle.airy_curve.proofs.CurveCuts.{curve_cut_law}
-use Rattle.airy_curve.proofs.ShapeLaw.{curve_shape_law}
 use Rattle.curve_law.specs.Tables.{IsCurveTable, CurveTableLaw}
-
--- the letter 1 leaves the series
-without_letter : (T : Tensors) (X : ℕ) (table : List Outcome) → series_with 1ℚ T X table ≡ series_of T X table
-unfolding series_with series_of
-without_letter T X table = λ i g e. one_times (letter_of T.shape (key_of g (indices e))) (value_in (planned T X) table (key_of g (indices e))) i *ℚ (pos 1 /ℚ factorials e)
 
 -- ---- the tensors of the plan themselves
 
@@ -57,7 +52,7 @@ module _ (c : ℕ → ℚ) (X M : ℕ) (x : 0 < X) (h : top_wk X ≤ M) where
   shown f so = cut_uniqueness X 1ℚ P W cut.graded cut.whole_symmetric cut.whole_graded cut.cut f so
 
   checks : Checks P X
-  checks = check_law P X (curve_shape_law c (suc (top_wk X)) (top_wk X)).symmetric cut.graded
+  checks = check_law P X (curve_symmetric c (suc (top_wk X)) (top_wk X)) cut.graded
 
   pub of_plan : IsCurveTable P c X M
   unfolding HasValue curve whole_curve

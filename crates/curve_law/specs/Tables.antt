@@ -16,8 +16,7 @@ use Rattle.amp_terms.specs.Outcomes.{outcomes}
 use Rattle.series_law.specs.Check.{check, Solution, Orders}
 use Rattle.series_law.specs.Jobs.{HasValue}
 use Rattle.series_law.specs.Uniqueness.{series_of}
-use Rattle.airy_curve.specs.Curve.{curve, curve_shape}
-use Rattle.airy_curve.specs.Cuts.{whole_curve}
+use Rattle.airy_math.specs.Curves.{curve, curve_shape, whole_curve}
 
 -- What the table of T up to X says of the solutions f of the curve of c with all indices up to M.
 pub record IsCurveTable (T : Tensors) (c : ℕ → ℚ) (X M : ℕ) : Type 0 where

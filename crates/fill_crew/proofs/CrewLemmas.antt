@@ -1,31 +1,19 @@
 -- The seats of a crew, before and behind its run; and all seats of a board, swept.
-use Rattle.std.proofs.Common.{◌≡◌, ℕ, zero, suc, ◌+◌, ◌<◌, ◌≤◌, Bool, true, false, List, [], ◌∷◌, ◌++◌, length, map, get_or, Option, None, Some, refl, sym, ap, ap₂, ◌∙◌, subst, arith, true≢false, length-append, append-nil, append_assoc}
+use Rattle.std.proofs.Common.{◌≡◌, ℕ, zero, suc, ◌+◌, ◌<◌, Bool, true, false, List, [], ◌∷◌, ◌++◌, length, map, get_or, Option, None, Some, refl, sym, ap, ap₂, ◌∙◌, subst, arith, true≢false, length-append, append-nil, append_assoc, ◌||◌, slice_index}
+use Rattle.amp_plan.proofs.RowLemmas.{has-append}
 use Rattle.std.proofs.Math.ListN.{get_or-append, get_or-map}
 use Rattle.std.proofs.Math.Seq.{get_or-append_seam}
-use Rattle.std.proofs.lemmas.List.{length-map, same_lists}
-use mathlib.Core.Logic.{dite}
-use native.Mathlib.Decide.{ℕ_discrete}
-use Rattle.std.specs.Prelude.{◌||◌}
-use Rattle.std.specs.Prelude.{slice_index}
-use Rattle.amp_plan.specs.Plans.{Planning, tensors_of}
-use Rattle.amp_plan.specs.Needs.{has}
+use Rattle.std.proofs.lemmas.List.{same_lists}
 use Rattle.amp_plan.proofs.GraphLemmas.{keep-row}
-use Rattle.amp_terms.specs.declared.Outcome.{Outcome}
-use Rattle.amp_terms.specs.declared.Outcome.TheVariants.{Over}
 use Rattle.amp_terms.specs.Outcomes.{outcomes}
 use Rattle.amp_terms.specs.Tables.{full_table}
-use Rattle.cell_words.specs.Layout.{cells, outcome_at}
 use Rattle.amp_terms.proofs.OutcomeLemmas.{length-all}
 use Rattle.cell_words.specs.Starts.{can_start, starts}
-use Rattle.cell_words.specs.Countdown.{Known}
-use Rattle.cell_words.specs.Seats.{IsSeatOf, view_of}
-use Rattle.cell_words.specs.Deals.{AreAll, IsAfter, receipts_of}
-use Rattle.cell_words.specs.declared.countdown.Countdown.{Countdown}
-use Rattle.cell_words.specs.declared.countdown.CountSeat.{CountSeat}
 use Rattle.cell_words.proofs.AloneLemmas.{same_numbers}
 use Rattle.cell_words.proofs.BookLemmas.{has_at}
-use Rattle.cell_words.proofs.DealLemmas.{same_default}
-use Rattle.cell_words.proofs.PartLemmas.{has_append}
+use Rattle.cell_words.specs.declared.countdown.Countdown.{Countdown}
+use Rattle.cell_words.specs.declared.countdown.CountSeat.{CountSeat}
+use Rattle.cell_words.proofs.Names.{length-map, get_or_default, dite, ℕ_discrete, Planning, tensors_of, has, Outcome, Over, cells, outcome_at, Known, view_of, AreAll, IsAfter, receipts_of}
 use Rattle.fill_crew.specs.Crews.{IsIdle, IsBack, BeginsWith, HasWorked, AreSwept}
 
 -- ---- what is true of what the items of lists have
@@ -78,9 +66,9 @@ more_receipts [] new xs e some first others r = absurd (omega arith)
 more_receipts (s ∷ ss) [] xs e some first others r = absurd (omega arith)
 more_receipts (s ∷ ss) (t ∷ ts) xs e some first others r =
     let is : has r (receipts_of (t ∷ ts)) ≡ ((has r s.done.items || has r xs) || has r (receipts_of ss)) =
-    ap (has r) (ap₂ ◌++◌ (first s) (same_receipts ss ts (omega arith) (λ j d l. others (suc j) d (omega arith) (omega arith)))) ∙ has_append r (s.done.items ++ xs) (receipts_of ss)
-    ∙ ap (λ b. b || has r (receipts_of ss)) (has_append r s.done.items xs) in (
-      λ h. is ∙ stays (has r s.done.items) (has r xs) (has r (receipts_of ss)) (sym (has_append r s.done.items (receipts_of ss)) ∙ h),
+    ap (has r) (ap₂ ◌++◌ (first s) (same_receipts ss ts (omega arith) (λ j d l. others (suc j) d (omega arith) (omega arith)))) ∙ has-append r (s.done.items ++ xs) (receipts_of ss)
+    ∙ ap (λ b. b || has r (receipts_of ss)) (has-append r s.done.items xs) in (
+      λ h. is ∙ stays (has r s.done.items) (has r xs) (has r (receipts_of ss)) (sym (has-append r s.done.items (receipts_of ss)) ∙ h),
       λ h. is ∙ comes (has r s.done.items) (has r xs) (has r (receipts_of ss)) h,
     )
   where
@@ -186,7 +174,7 @@ full_is p t len each =
     let os = outcomes (tensors_of p) p.bound in
     let many : length (map (λ o. Some o) os) ≡ cells p = length-map os (λ o. Some o) ∙ length-all p in
     same_lists t (map (λ o. Some o) os) (omega (arith, len, many))
-    (λ i d h. same_default t i d None h ∙ each i (omega (arith, h, len)) ∙ sym (get_or-map (λ o. Some o) os i Over) ∙ same_default (map (λ o. Some o) os) i (Some Over) d (omega (arith, h, len, many)))
+    (λ i d h. get_or_default t i d None h ∙ each i (omega (arith, h, len)) ∙ sym (get_or-map (λ o. Some o) os i Over) ∙ get_or_default (map (λ o. Some o) os) i (Some Over) d (omega (arith, h, len, many)))
 
 -- ---- the last seat behind a sweep
 

@@ -1,24 +1,13 @@
 -- The next level of a frontier board.
-use Rattle.std.proofs.Common.{◌≡◌, ℕ, ◌<◌, ◌≤◌, ◌+◌, ◌++◌, List, take, drop, length, arith, sym, ap, ◌∙◌, subst, append-nil, take_all, drop_of_length-le}
+use Rattle.std.proofs.Common.{◌≡◌, ℕ, ◌<◌, ◌≤◌, ◌+◌, List, take, length, arith, sym, ap, ◌∙◌, subst, slice_index_or}
 use Rattle.std.proofs.lemmas.List.{same_lists}
-use Rattle.std.specs.Prelude.{slice_index_or}
-use Rattle.airy_math.specs.Levels.{euler_of}
-use Rattle.amp_plan.specs.Plans.{Planning, key_at}
-use Rattle.amp_terms.specs.declared.Outcome.{Outcome}
-use Rattle.cell_words.specs.Layout.{cells, all_outcomes, outcome_at}
-use Rattle.cell_words.specs.Levels.{cells_to, level_after}
-use Rattle.cell_words.specs.LevelSeats.{IsFiller}
-use Rattle.fill_crew.specs.Levels.{IsPublished}
+use Rattle.cell_words.specs.Levels.{level_after}
 use Rattle.cell_words.specs.declared.frontier.Frontier.{Frontier}
 use Rattle.cell_words.specs.declared.frontier.FillSeat.{FillSeat}
-use Rattle.cell_words.proofs.LevelSteps.{cells_grow}
 use Rattle.cell_words.proofs.LevelLemmas.{level-ranks, level-inside}
 use Rattle.cell_words.proofs.FillerLemmas.{length-taken, level-length, level-outcome}
-
--- so many outcomes the filler has
-pub many : (b : Frontier) (f : FillSeat) (l : List Outcome) → IsFiller b f → l ≡ f.outcomes.items → length l ≡ cells_to b.plan f.published
-many b f l filler is =
-    ap length (is ∙ filler.outcomes) ∙ length-taken b.plan (cells_to b.plan f.published) (level-inside b.plan f.published (let e = filler.of.3 in omega (arith, filler.published, e)))
+use Rattle.cell_words.proofs.Names.{euler_of, Planning, key_at, Outcome, cells, all_outcomes, outcome_at, cells_to, IsFiller}
+use Rattle.fill_crew.specs.Levels.{IsPublished}
 
 pub published-many : (b : Frontier) (k : ℕ) (l : List Outcome) → IsPublished b k l → length l ≡ cells_to b.plan k
 published-many b k l h = ap length h.outcomes ∙ length-taken b.plan (cells_to b.plan k) (level-inside b.plan k (let e = h.next in omega arith))
@@ -38,10 +27,6 @@ is-next p q k n i e len next within = subst (λ s. IsNext s k n (n + i)) (sym e)
   level = (omega arith, (level-ranks p (k + 1) (n + i) (omega arith) (omega (arith, len, within, level-inside p (k + 1) (omega arith)))).0 (omega (arith, len, within)));
   enough = omega (arith, len);
 })
-
--- a slice of a whole Vec is written back
-pub whole : {X : Type 0} (n : ℕ) (xs ys : List X) → length xs ≡ n → length ys ≡ n → take n (xs ++ drop (length xs) ys) ≡ xs
-whole n xs ys a b = ap (λ l. take n (xs ++ l)) (drop_of_length-le ys {i = length xs} (omega arith)) ∙ ap (take n) (append-nil xs) ∙ take_all n xs (omega arith)
 
 -- outcomes that are those of the level's ranks are the level
 pub is-level : (p : Planning) (k : ℕ) (l : List Outcome) → k < p.bound → cells_to p k + length l ≡ cells_to p (k + 1) → ((i : ℕ) (d : Outcome) → i < length l → slice_index_or l i d ≡ outcome_at p (cells_to p k + i)) → l ≡ level_after p k

@@ -1,16 +1,11 @@
 -- The laws of fractions as pairs of whole numbers.
-use Rattle.std.proofs.Common.{◌≡◌, ℕ, suc, zero, ◌*◌, ◌/◌, ◌<◌, Bool, true, false, refl, sym, ◌∙◌, ap, ap₂, subst, arith, ℤ, pos, negsuc, neg_ℤ, ◌+ℤ◌, ◌*ℤ◌, unsigned_abs}
-use Rattle.std.specs.Prelude.{Some, None, IsSome, cond, ◌&&◌, ◌^◌, ◌↔◌, ◌≢◌}
-use Rattle.std.proofs.lemmas.Bool.{and_parts}
-use Rattle.std.proofs.lemmas.Int.{ints}
+use Rattle.std.proofs.Common.{◌≡◌, ℕ, suc, zero, ◌*◌, ◌/◌, ◌<◌, Bool, true, false, refl, sym, ◌∙◌, ap, ap₂, subst, arith, ℤ, pos, negsuc, neg_ℤ, ◌+ℤ◌, ◌*ℤ◌, unsigned_abs, Some, None, IsSome, cond, ◌&&◌, ◌^◌, ◌↔◌, ◌≢◌}
+use Rattle.frac128.proofs.Words.{and_parts, ints, gcd, ℚ, ◌/ℚ◌, ◌+ℚ◌, ◌*ℚ◌, neg_ℚ, parts_lem, same_fraction, fits, obtained_sum, obtained_product, quotient}
 use Rattle.std.proofs.Math.IntN.{*ℤ_comm}
-use Rattle.airy_math.specs.Gcd.{gcd}
 use Rattle.airy_math.specs.Ints.{*ℤ-neg}
-use Rattle.airy_math.specs.Rational.{ℚ, ◌/ℚ◌, ◌+ℚ◌, ◌*ℚ◌, neg_ℚ, positive, coprime, cross, parts_lem, same_fraction, cross_from_same, lowest_parts, is_lowest}
+use Rattle.airy_math.specs.Rational.{positive, coprime, cross, cross_from_same, lowest_parts, is_lowest}
 use Rattle.airy_math.specs.RationalLaws.{add_fractions, mul_fractions}
-use Rattle.airy_math.specs.Obtained.{fits, obtained_sum, obtained_product}
 use Rattle.airy_math.proofs.ObtainedLaw.{sum_exact, product_exact}
-use Rattle.frac128.specs.Fraction.{quotient}
 use Rattle.frac128.specs.Laws.{IsNumber, IsLowest, SchoolRules, IsWithin, SumWithin, RangeRules}
 use Rattle.frac128.proofs.SignLemmas.{nat_lt-true, below-nat_lt}
 use Rattle.frac128.proofs.ProductLemmas.{positive-product}

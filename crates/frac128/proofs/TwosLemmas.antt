@@ -1,26 +1,19 @@
 -- Odd numbers and powers of two under the greatest common divisor.
 use Rattle.std.proofs.lemmas.Bool.{cases_lt}
-use Rattle.std.proofs.Common.{inl, inr, ◌≡◌, ℕ, suc, zero, ◌+◌, ◌-◌, ◌*◌, ◌/◌, ◌%◌, ◌<◌, ◌≤◌, refl, sym, ◌∙◌, ap, subst, arith}
-use Rattle.std.specs.Prelude.{◌^◌, min, ◌⊎◌}
+use Rattle.std.proofs.Common.{inl, inr, ◌≡◌, ℕ, suc, zero, ◌+◌, ◌-◌, ◌*◌, ◌/◌, ◌%◌, ◌<◌, ◌≤◌, refl, sym, ◌∙◌, ap, subst, arith, ◌^◌, min, ◌⊎◌, pow-add, pow_pos}
 use Rattle.std.specs.Int.{◌∣◌}
 use Rattle.std.specs.Int.Count.{count_trailing_zeros, trailing_of_zero, under}
-use Rattle.std.proofs.lemmas.Nat.{pow-add, pow_pos}
 use Rattle.std.proofs.lemmas.Nat.Gcd.{IsGcd-from_zero, IsGcd-from_sub, IsGcd-swap, dvd_trans, le_of_dvd}
 use Rattle.std.proofs.Math.Nat.{pow-suc, eq-one_of_dvd-one, dvd-mul_right, mul_comm, mul_assoc, one-mul, mod-eq_of_lt, div-div-eq-div-mul, min-eq_left, min-eq_right}
 use Rattle.airy_math.specs.Gcd.{gcd, gcd_steps}
 use Rattle.frac128.proofs.GcdLemmas.{Coprime, Coprime-from_gcd, Coprime-part_left, Coprime-product, gcd-is, gcd-from_IsGcd, gcd-from_Coprime, gcd-scaled, divides_other}
-
--- n is q 2^t, and q is odd
-pub record IsSplit (n q t : ℕ) : Type 0 where
-  pub whole : q * 2 ^ t ≡ n
-  pub odd : q % 2 ≡ 1
 
 -- ---- the zeros at the end of a number
 
 abbrev Splits : ℕ → ℕ → ℕ → Type 0
 Splits k n t = (n / 2 ^ t * 2 ^ t ≡ n) × (n / 2 ^ t % 2 ≡ 1) × (t < k)
 
-halves : (n q t : ℕ) → n % 2 ≡ 0 → q * 2 ^ t ≡ n / 2 → q * 2 ^ suc t ≡ n
+pub halves : (n q t : ℕ) → n % 2 ≡ 0 → q * 2 ^ t ≡ n / 2 → q * 2 ^ suc t ≡ n
 halves n q t e h = let p = pow-suc 2 t in let a : q * (2 ^ t * 2) ≡ q * 2 ^ t * 2 = omega arith in ap (λ x. q * x) p ∙ a ∙ (let b : q * 2 ^ t * 2 ≡ n = omega arith in b)
 
 pub zeros-split : (k n : ℕ) → 0 < n → n < 2 ^ k → Splits k n (count_trailing_zeros k n)

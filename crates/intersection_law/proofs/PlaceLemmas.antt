@@ -10,12 +10,12 @@ use lib.IntN.{pos, ◌*ℤ◌}
 use lib.ListN.{length}
 use Rattle.std.proofs.lemmas.Bool.{eqb-true}
 use Rattle.airy_math.specs.Rational.{ℚ, ◌+ℚ◌, ◌*ℚ◌, ◌/ℚ◌, whole, same_fraction}
-use Rattle.airy_math.specs.RationalLaws.{0ℚ, 0ℚ_idl, 1ℚ_idl, 0ℚ-*ℚ, *ℚ_distrib_r, add_fractions, mul_fractions}
+use Rattle.airy_math.specs.RationalLaws.{0ℚ, 0ℚ_idl, 1ℚ_idl, 0ℚ-*ℚ, *ℚ_distrib_r, mul_fractions}
 use Rattle.airy_math.specs.Sums.{sum_over, when, below, factorial}
 use Rattle.airy_math.specs.Keys.{times, more, total, exponents}
 use Rattle.airy_math.specs.Series.{raise, lower}
 use Rattle.airy_math.specs.Solutions.{factorials}
-use Rattle.airy_math.proofs.SumLemmas.{sum-cong, sum-map, sum-zero, sum-add}
+use Rattle.airy_math.proofs.SumLemmas.{sum-cong, sum-map, sum-zero, sum-add, whole-add}
 use Rattle.airy_math.proofs.KeyLemmas.{AllBelow}
 use Rattle.airy_math.proofs.MoveLemmas.{exponents-cons, exponents-none}
 use Rattle.airy_math.proofs.ConstraintLemmas.{raise_comm, whole-zero}
@@ -33,13 +33,6 @@ one_pos = omega arith
 
 both_pos : (a b : ℕ) → 0 < a → 0 < b → 0 < a * b
 both_pos a b p q = grind arith
-
-pub whole-add : (m n : ℕ) → whole (m + n) ≡ whole m +ℚ whole n
-unfolding whole
-whole-add m n = sym (add_fractions (pos m) (pos n) 1 1 one_pos one_pos ∙ ap (λ t. pos t /ℚ 1) (ones m n))
-  where
-    ones : (m n : ℕ) → m * 1 + n * 1 ≡ m + n
-    ones m n = omega arith
 
 -- n/d is a times n/(a d)
 pub quotient-times : (a n d : ℕ) → 0 < a → 0 < d → pos n /ℚ d ≡ whole a *ℚ (pos n /ℚ (a * d))

@@ -1,4 +1,1 @@
-mod ValueLemmas
-mod StopLemmas
 mod FirstLaw
-pub mod RefusalLemmas

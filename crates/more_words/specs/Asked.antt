@@ -1,12 +1,13 @@
 -- What the code's reading stands for.
-use Rattle.std.specs.Prelude.{ℕ, ◌+◌, ◌≤◌, ◌<◌, ◌^◌, List, length, map, string_bytes, Result, Ok, Err}
+use Rattle.std.specs.Prelude.{ℕ, ◌+◌, ◌≤◌, ◌<◌, ◌^◌, List, [], ◌∷◌, length, map, string_bytes, Result, Ok, Err}
 use Rattle.command_words.specs.Asked.{IsCrew, IsPlaces, kind_of}
+use Rattle.command_words.specs.Options.{Parted, Next, End}
 use Rattle.more_words.specs.declared.asked.MoreAsked.{MoreAsked}
 use Rattle.more_words.specs.declared.asked.MoreAsked.TheVariants as asked
 use Rattle.more_words.specs.declared.places.Left.{Left}
 use Rattle.more_words.specs.MoreWords as words
 
-abbrev pub numbered_of : Left → words.Numbered
+abbrev pub numbered_of : Left → Parted
 numbered_of l = words.numbered (l.before + 1) (map string_bytes l.words.now)
 
 abbrev pub reading : MoreAsked → words.Reading
@@ -24,12 +25,17 @@ reading_by (Ok asked) = reading asked
 reading_by (Err before) = words.Refused (before + 1)
 
 -- the next word and the words behind it, or how many words stand before the one that is missing
-abbrev pub told : {A : Type 0} → (A → List ℕ) → Result (A × Left) ℕ → words.Numbered
-told f (Ok x) = words.Next x.1.before (f x.0) (numbered_of x.1)
-told f (Err before) = words.End (before + 1)
+abbrev pub told : {A : Type 0} → (A → List ℕ) → Result (A × Left) ℕ → Parted
+told f (Ok x) = Next x.1.before (f x.0) (numbered_of x.1)
+told f (Err before) = End (before + 1) 0
+
+-- the words that are left: the next word before those behind it, or none
+abbrev pub words_by : {A : Type 0} → (A → List ℕ) → Result (A × Left) ℕ → List (List ℕ)
+words_by f (Ok x) = f x.0 ∷ map string_bytes x.1.words.now
+words_by f (Err before) = []
 
 -- a word that was read as something, and the words behind it
-abbrev pub taken : {A B : Type 0} → (A → B) → Result (A × Left) ℕ → Result (B × words.Numbered) ℕ
+abbrev pub taken : {A B : Type 0} → (A → B) → Result (A × Left) ℕ → Result (B × Parted) ℕ
 taken f (Ok x) = Ok (f x.0, numbered_of x.1)
 taken f (Err before) = Err (before + 1)
 

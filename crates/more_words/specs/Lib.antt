@@ -2,5 +2,4 @@
 pub mod MoreWords
 pub mod Asked
 pub mod FirstRefused
-pub mod Refusals
 pub mod MoreExamples

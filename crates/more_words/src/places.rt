@@ -1,8 +1,9 @@
-ghost use Rattle.std.specs.Prelude.{◌≡◌, ◌+◌, ◌≤◌, ◌<◌, ◌^◌, length, IfOk};
+ghost use Rattle.std.specs.Prelude.{◌≡◌, ◌+◌, ◌≤◌, ◌<◌, ◌^◌, length, map, string_bytes, IfOk};
 ghost use Rattle.command_words.specs.Asked.{kind_of};
 ghost use Rattle.command_words.specs.Words.{kind_of_word, long_number, short_number};
-ghost use Rattle.more_words.specs.MoreWords.{ended, next_read, values};
-ghost use Rattle.more_words.specs.Asked.{numbered_of, taken, told, whole, IsLeft};
+ghost use Rattle.command_words.specs.Options.{next_read};
+ghost use Rattle.more_words.specs.MoreWords.{ended, values};
+ghost use Rattle.more_words.specs.Asked.{numbered_of, taken, told, whole, words_by, IsLeft};
 
 use crate::numbers::CurveNumbers;
 use command_words::{Kind, read_kind, read_long, read_short};
@@ -19,6 +20,7 @@ pub struct Left<'a> {
 pub fn next_word(left: Left<'_>) -> Result<(&str, Left<'_>), usize>
     requires { IsLeft left }
     ensures told { told (λ w. w.now) result ≡ numbered_of left.entry }
+    ensures words { words_by (λ w. w.now) result ≡ map string_bytes left.entry.words.now }
     ensures before { IfOk result (λ x. x.1.before ≡ left.entry.before + 1) }
     ensures shorter { IfOk result (λ x. length x.1.words.now < length left.entry.words.now) }
     ensures left { IfOk result (λ x. IsLeft x.1) }

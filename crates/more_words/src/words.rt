@@ -11,7 +11,7 @@ use crate::places::{Left, ends, last_values, next_kind, next_long, next_short, n
 ///
 /// KIND is `wk`, `bgw`, `wp` or `-`. X is of 1 to 9 digits, WORKERS of 1 to 3 with a value from 0 to 16, N of 1 to 3 with a value from 1
 /// to 32. There are 0 to 24 words U, each a value as in a text of tensors. Zeros may lead.
-#[tactic(auto, using(crate::proofs::FirstLaw::refuses_first))]
+#[tactic(auto, using(crate::proofs::FirstLaw::more_refuses_first))]
 pub fn read_more_words(words: &[String]) -> MoreAsked
     ensures reading { reading result ≡ reading_of (map string_bytes words.now) }
     ensures refused { RefusesFirst (reading result) (map string_bytes words.now) }

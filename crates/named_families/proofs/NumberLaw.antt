@@ -5,11 +5,13 @@ use Rattle.std.specs.Prelude.{Option, Some, None}
 use Rattle.std.proofs.lemmas.Int.{ints}
 use Rattle.airy_math.specs.Obtained.{obtained_product}
 use Rattle.airy_math.specs.Rational.{ℚ, ◌*ℚ◌, ◌/ℚ◌, same_fraction}
-use Rattle.airy_math.specs.RationalLaws.{1ℚ, mul_fractions, products_q}
+use Rattle.airy_math.specs.RationalLaws.{mul_fractions, products_q}
 use Rattle.airy_math.specs.Sums.{factorial}
 use Rattle.airy_math.proofs.ObtainedLaw.{product_exact}
-use Rattle.airy_curve.specs.Curve.{number_of, numbers_down, power, wp_u}
-use Rattle.airy_curve.specs.CurveExamples.{curve_computes}
+use Rattle.airy_math.specs.Curves.{numbers_down}
+use Rattle.airy_math.specs.Families.{sine, wp_number}
+use Rattle.airy_math.specs.Cuts.{power}
+use Rattle.airy_math.specs.CutExamples.{curve_computes}
 use Rattle.airy_curve.specs.StepExamples.{steps_compute}
 use Rattle.airy_curve.specs.Numbers.{Holds}
 use Rattle.airy_curve.specs.Steps.{entry_refusal, first_answer, next_number, or_else, tensors_refusal, unless_obtained}
@@ -19,13 +21,9 @@ use Rattle.airy_curve.specs.declared.making.CurveErr.TheVariants.{Over, NoMemory
 use Rattle.airy_curve.proofs.StepLemmas.{held-read}
 use Rattle.named_families.specs.Families.{Names, made_of}
 use Rattle.named_families.specs.Steps.{number_refusal, wp_refusal}
+use Rattle.airy_math.proofs.ConstraintLemmas.{factorial_pos}
 
 -- ---- u_k
-
-factorial_pos : (n : ℕ) → 0 < factorial n
-unfolding factorial
-factorial_pos zero = omega arith
-factorial_pos (suc n) = let h = factorial_pos n in omega arith
 
 -- (2k+3)! from (2k+1)!
 factorial_two : (k : ℕ) → factorial (2 * suc k + 1) ≡ (2 * k + 3) * ((2 * k + 2) * factorial (2 * k + 1))
@@ -50,8 +48,8 @@ regroup m p x = simp products_q
 regroup-back : (p y r : ℚ) → p *ℚ (y *ℚ r) ≡ (p *ℚ y) *ℚ r
 regroup-back p y r = simp products_q
 
-pub u-next : (k : ℕ) → wp_u (suc k) ≡ wp_u k *ℚ (negsuc 1 /ℚ (suc k * (2 * suc k + 1)))
-unfolding wp_u power
+pub u-next : (k : ℕ) → sine (suc k) ≡ sine k *ℚ (negsuc 1 /ℚ (suc k * (2 * suc k + 1)))
+unfolding sine power
 u-next k =
     let f = factorial (2 * k + 1) in
     let r = suc k * (2 * suc k + 1) in
@@ -68,51 +66,47 @@ u-next k =
     ∙ sym (mul_fractions (pos 1) (negsuc 1) f r some_f some_r))
     ∙ regroup-back (power (negsuc 3 /ℚ 1) k) (pos 1 /ℚ f) (negsuc 1 /ℚ r)
 
-pub u-first : wp_u 0 ≡ 1ℚ
-unfolding curve_computes
-u-first = refl
-
 -- u_k, where it is obtained of the one before it
-pub u-exact : (k : ℕ) (w : ℚ) → 0 < k → obtained_product (wp_u (k - 1)) (negsuc 1 /ℚ (k * (2 * k + 1))) ≡ Some w → w ≡ wp_u k
+pub u-exact : (k : ℕ) (w : ℚ) → 0 < k → obtained_product (sine (k - 1)) (negsuc 1 /ℚ (k * (2 * k + 1))) ≡ Some w → w ≡ sine k
 u-exact zero w h e = absurd (omega arith)
 u-exact (suc k) w h e =
-    product_exact (wp_u (suc k - 1)) (negsuc 1 /ℚ (suc k * (2 * suc k + 1))) w e
-    ∙ ap (λ n. wp_u n *ℚ (negsuc 1 /ℚ (suc k * (2 * suc k + 1)))) less
+    product_exact (sine (suc k - 1)) (negsuc 1 /ℚ (suc k * (2 * suc k + 1))) w e
+    ∙ ap (λ n. sine n *ℚ (negsuc 1 /ℚ (suc k * (2 * suc k + 1)))) less
     ∙ sym (u-next k)
   where
     less : suc k - 1 ≡ k
     less = omega arith
 
 -- the product for u_k, as the array has its factor
-pub u-read : (k : ℕ) (us : List ℚ) (x r : ℚ) → 0 < k → k ≤ 73 → Holds wp_u k us → x ≡ get_or us (k - 1) x → r ≡ negsuc 1 /ℚ (k * (2 * k + 1)) → obtained_product (wp_u (k - 1)) (negsuc 1 /ℚ (k * (2 * k + 1))) ≡ obtained_product x r
+pub u-read : (k : ℕ) (us : List ℚ) (x r : ℚ) → 0 < k → k ≤ 73 → Holds sine k us → x ≡ get_or us (k - 1) x → r ≡ negsuc 1 /ℚ (k * (2 * k + 1)) → obtained_product (sine (k - 1)) (negsuc 1 /ℚ (k * (2 * k + 1))) ≡ obtained_product x r
 u-read k us x r h most holds is ratio = ap₂ obtained_product (sym (holds.at (k - 1) (omega arith)) ∙ held-read us (k - 1) x (omega (arith, holds.places)) is) (sym ratio)
 
 -- ---- what is named
 
-pub number_fine : (k : ℕ) (x y : ℚ) → obtained_product (wp_u (k - 1)) (negsuc 1 /ℚ (k * (2 * k + 1))) ≡ Some x → next_number wp_u (numbers_down wp_u (k - 1)) ≡ Some y → number_refusal k ≡ None
+pub number_fine : (k : ℕ) (x y : ℚ) → obtained_product (sine (k - 1)) (negsuc 1 /ℚ (k * (2 * k + 1))) ≡ Some x → next_number sine (numbers_down sine (k - 1)) ≡ Some y → number_refusal k ≡ None
 unfolding number_refusal unless_obtained or_else
 number_fine k x y u c = rw (u, c) refl
 
-pub u_refused : (k : ℕ) → obtained_product (wp_u (k - 1)) (negsuc 1 /ℚ (k * (2 * k + 1))) ≡ None → number_refusal k ≡ Some k
+pub u_refused : (k : ℕ) → obtained_product (sine (k - 1)) (negsuc 1 /ℚ (k * (2 * k + 1))) ≡ None → number_refusal k ≡ Some k
 unfolding number_refusal unless_obtained or_else
 u_refused k u = rw u refl
 
-pub c_refused : (k : ℕ) (x : ℚ) → obtained_product (wp_u (k - 1)) (negsuc 1 /ℚ (k * (2 * k + 1))) ≡ Some x → next_number wp_u (numbers_down wp_u (k - 1)) ≡ None → number_refusal k ≡ Some k
+pub c_refused : (k : ℕ) (x : ℚ) → obtained_product (sine (k - 1)) (negsuc 1 /ℚ (k * (2 * k + 1))) ≡ Some x → next_number sine (numbers_down sine (k - 1)) ≡ None → number_refusal k ≡ Some k
 unfolding number_refusal unless_obtained or_else
 c_refused k x u c = rw (u, c) refl
 
 -- 2/3 times 1/8 is obtained
-corner_obtained : unless_obtained 1 (obtained_product (number_of wp_u 1) (pos 1 /ℚ 8)) ≡ None
+corner_obtained : unless_obtained 1 (obtained_product (wp_number 1) (pos 1 /ℚ 8)) ≡ None
 unfolding curve_computes steps_compute
 corner_obtained = refl
 
 -- where all numbers are obtained, only the entries can be refused
-pub refusal_of_entries : (dim most : ℕ) → first_answer 1 most number_refusal ≡ None → tensors_refusal (number_of wp_u) dim most ≡ wp_refusal dim most
+pub refusal_of_entries : (dim most : ℕ) → first_answer 1 most number_refusal ≡ None → tensors_refusal wp_number dim most ≡ wp_refusal dim most
 unfolding tensors_refusal wp_refusal or_else
 refusal_of_entries dim most none = ap (or_else entries) corner_obtained ∙ none_last entries ∙ ap (λ o. or_else o entries) (sym none)
   where
     entries : Option ℕ
-    entries = entry_refusal (number_of wp_u) dim most
+    entries = entry_refusal wp_number dim most
 
     none_last : (o : Option ℕ) → or_else o None ≡ o
     none_last (Some k) = refl

@@ -3,17 +3,18 @@ use mathlib.Core.Path.{◌≡◌, refl}
 use lib.IntN.{pos}
 use Rattle.std.specs.Prelude.{Some, None}
 use Rattle.airy_math.specs.Rational.{◌/ℚ◌}
-use Rattle.airy_curve.specs.Curve.{numbers_down, wp_u}
-use Rattle.airy_curve.specs.CurveExamples.{curve_computes}
+use Rattle.airy_math.specs.Curves.{numbers_down}
+use Rattle.airy_math.specs.Families.{sine}
+use Rattle.airy_math.specs.CutExamples.{curve_computes}
 use Rattle.airy_curve.specs.StepExamples.{steps_compute}
 use Rattle.airy_curve.specs.Steps.{next_number}
 use Rattle.named_families.specs.Steps.{number_refusal, wp_refusal}
 
-u_2 : wp_u 2 ≡ pos 2 /ℚ 15
+u_2 : sine 2 ≡ pos 2 /ℚ 15
 unfolding curve_computes
 u_2 = refl
 
-c_3 : next_number wp_u (numbers_down wp_u 2) ≡ Some (pos 124 /ℚ 945)
+c_3 : next_number sine (numbers_down sine 2) ≡ Some (pos 124 /ℚ 945)
 unfolding curve_computes steps_compute
 c_3 = refl
 

@@ -23,8 +23,5 @@ pub fn bgw_closes()
 pub fn wp_closes()
     ensures { WpCloses }
 {
-    airy_math::below_dim();
-    airy_curve::wp_relations();
-    airy_curve::same_wp();
-    airy_relations::no_difference();
+    airy_curve::curve_closes();
 }

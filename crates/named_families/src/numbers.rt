@@ -1,6 +1,6 @@
 ghost use Rattle.std.specs.Prelude.{◌≡◌, ◌<◌, ◌≤◌, ◌+◌, ◌*◌, negsuc, None, Some, OnOk, IfOk, IfErr};
 ghost use Rattle.airy_math.specs.Rational.{◌/ℚ◌};
-ghost use Rattle.airy_curve.specs.Curve.{number_of, wp_u};
+ghost use Rattle.airy_math.specs.Families.{sine, wp_number};
 ghost use Rattle.airy_curve.specs.Numbers.{Holds};
 ghost use Rattle.airy_curve.specs.Steps.{first_answer};
 ghost use Rattle.named_families.specs.Steps.{number_refusal};
@@ -25,7 +25,7 @@ fn ratio(k: u8) -> Frac
 /// range, where `u_k` or `c_k` isn't obtained. Most is at most 72.
 pub(crate) fn numbers_up_to(most: u8) -> Result<[Frac; 73], u8>
     requires { most ≤ 72 }
-    ensures made { IfOk result (Holds (number_of wp_u) (most + 1)) }
+    ensures made { IfOk result (Holds wp_number (most + 1)) }
     ensures obtained { OnOk result (first_answer 1 most number_refusal ≡ None) }
     ensures over { IfErr result (λ k. first_answer 1 most number_refusal ≡ Some k) }
 {

@@ -61,7 +61,6 @@ pub fn wp_cut(alloc: Global, dim: u8, most: u8) -> Result<Tensors, MakeErr>
         Ok(numbers) => numbers,
         Err(k) => return Err(MakeErr::Over { k }),
     };
-    airy_curve::curve_of_wp();
     crate::wp_closes();
     Ok(tensors_of(alloc, dim, most, &numbers, true)?)
 }

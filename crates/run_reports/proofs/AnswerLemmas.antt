@@ -1,14 +1,8 @@
 -- A report that was told, or cut by the sink's fault, is an answer of the run.
-use Rattle.std.proofs.Common.{◌≡◌, ◌≢◌, ◌⊎◌, inl, inr, ℕ, arith, sym, ◌<◌, ◌≤◌, ap, ◌∙◌, subst}
-use Rattle.std.specs.Prelude.{true, false}
-use Rattle.airy_io.specs.Causes.{Giving, Rose}
-use Rattle.command_words.specs.Bounds.{is_bound}
-use Rattle.sparse_tensor.specs.Entries.{Entries}
-use Rattle.run_reports.specs.Report.{Report, Ends}
-use Rattle.run_reports.specs.Ends.{EndsBy, EndsOfText, EndsWithBound}
-use Rattle.run_reports.specs.Leads.{LeadsFromText, LeadsWithBound, beyond, within}
-use Rattle.run_reports.specs.Runs.{Run}
-use Rattle.run_reports.specs.Promises.{AnswersBy}
+use Rattle.std.proofs.Common.{◌≡◌, ◌≢◌, ◌⊎◌, inl, inr, ℕ, arith, sym, ◌<◌, ◌≤◌, ap, ◌∙◌, subst, true, false}
+use Rattle.run_reports.proofs.Names.{Giving, Rose, kind_of, is_bound, Entries, Report, Ends, EndsBy, EndsOfText, EndsWithBound, LeadsFromText, LeadsWithBound, beyond, within, Run, AnswersBy}
+use Rattle.command_words.specs.Words as words
+use Rattle.command_words.specs.declared.asked.Kind.{Kind}
 use Rattle.run_reports.proofs.SourceLemmas.{text_source}
 use Rattle.run_reports.proofs.StatusLemmas.{IsOther, status_of}
 
@@ -69,3 +63,13 @@ answers_with_bound {no_text} run X next none other ends = answers_from_report ru
     source (within bounded l) =
         let parts = text_source run next ends.0 other l in
         record { cause = parts.0; seen = parts.1; untouched = λ h. absurd (clash bounded (none h)) }
+
+-- ---- by what the words ask for
+
+pub answers_by : {R : Type 0} (leads : R → Run → Report → Type 0) (no_text : R → Type 0) {run : Run} (asked : R) {given : R} → asked ≡ given
+    → AnswersBy (leads asked run) (no_text asked) run → AnswersBy (leads given run) (no_text given) run
+answers_by leads no_text {run} asked same answers = subst (λ r. AnswersBy (leads r run) (no_text r) run) same answers
+
+-- what they ask for, with its kind known
+pub of_kind : {A : Type 0} (reading : words.Kind → A) (r : A) (k k' : Kind) → k ≡ k' → reading (kind_of k) ≡ r → reading (kind_of k') ≡ r
+of_kind reading r k k' e f = ap (λ (x : Kind). reading (kind_of x)) (sym e) ∙ f

@@ -1,19 +1,10 @@
 -- The causes of a run's status and completeness, by how the reports that it may lead to stand to what is meant.
-use Rattle.std.proofs.Common.{◌≡◌, ◌≢◌, ◌⊎◌, inl, inr, ℕ, ◌≤◌, ◌<◌, ◌==◌, [], arith, refl, sym, ap, ◌∙◌, subst, length}
+use Rattle.std.proofs.Common.{◌≡◌, ◌≢◌, ◌⊎◌, inl, inr, ℕ, ◌≤◌, ◌<◌, ◌==◌, [], arith, refl, sym, ap, ◌∙◌, subst, length, Some, Bool, true, false, List}
+use Rattle.run_reports.proofs.Names.{Rose, is_bound, Entries, TextReading, Read, Refused, reading_of, Report, bound_refused, out_of_memory, read_fault, text_too_long, line_refused, LeadsFromText, failed, wanting, long, refused, read, LeadsWithBound, beyond, within, of_reading, of_text, Run, Gives, AnswersBy, GivesBy, HasCausesBy, IsCompleteBy, IsInRange}
 use Rattle.std.proofs.lemmas.Bool.Decides.{nat_tests}
-use Rattle.std.specs.Prelude.{Some, Bool, true, false, List}
 use Rattle.std.specs.Io.KnownBytes.{Consumes}
-use Rattle.airy_io.specs.Causes.{Rose}
-use Rattle.command_words.specs.Bounds.{is_bound}
-use Rattle.sparse_tensor.specs.Entries.{Entries}
 use Rattle.tensor_text.specs.declared.refusals.LineKind.{LineKind}
-use Rattle.tensor_text.specs.Grammar.{TextReading, Read, Refused, reading_of}
 use Rattle.tensor_text.specs.Answers.{IsWhole}
-use Rattle.run_reports.specs.Report.{Report, bound_refused, out_of_memory}
-use Rattle.run_reports.specs.Texts.{read_fault, text_too_long, line_refused}
-use Rattle.run_reports.specs.Leads.{LeadsFromText, failed, wanting, long, refused, read, LeadsWithBound, beyond, within, of_reading, of_text}
-use Rattle.run_reports.specs.Runs.{Run, Gives}
-use Rattle.run_reports.specs.Promises.{AnswersBy, GivesBy, HasCausesBy, IsCompleteBy, IsInRange}
 use Rattle.run_reports.proofs.SourceLemmas.{source_or, told_source, ended, no_longer, of_short, of_long}
 use Rattle.run_reports.proofs.StatusLemmas.{IsPlain, plain_ample, status_of}
 

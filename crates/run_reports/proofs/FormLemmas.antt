@@ -1,26 +1,14 @@
 -- A table in the form that is asked for: its refusals are those of every form.
-use Rattle.std.proofs.Common.{◌≡◌, ◌≢◌, ◌⊎◌, inl, inr, ℕ, zero, suc, ◌≤◌, ◌-◌, refl, sym, ap, ◌∙◌, subst, arith, length, List, [], ◌∷◌, ◌++◌, take}
-use Rattle.std.specs.Prelude.{Bool, false, nat_eq, codes, Option, Result, Ok, Err}
+use Rattle.std.proofs.Common.{◌≡◌, ◌≢◌, ◌⊎◌, inl, inr, ℕ, zero, suc, ◌≤◌, ◌-◌, refl, sym, ap, ◌∙◌, subst, arith, length, List, [], ◌∷◌, ◌++◌, take, Bool, false, nat_eq, codes, Option, Result, Ok, Err}
+use Rattle.run_reports.proofs.Names.{Taking, Writes, AppendsPrefix, Key, Shape, Tensors, Within, limit_of, Planning, keys_of, tensors_of, PlanCause, Outcome, full_table, value_at, value_of_cell, Entries, looked_up, Report, out_of_memory, cause_report, plan_cells, stored_report, count_text, formed, formed_cells, formed_stored, last_of, last_text, plan_rest, plan_summary, summary_text, summed}
 use Rattle.std.proofs.KnownBytes.{Appends-trans}
 use Rattle.std.proofs.lemmas.List.{take-append-le, length-append}
 use Rattle.std.specs.Io.KnownBytes.{Appends}
-use Rattle.airy_io.specs.Causes.{Taking, Writes, AppendsPrefix}
 use Rattle.airy_io.proofs.Prefixes.{AppendsPrefix-more}
-use Rattle.airy_math.specs.Keys.{Key}
-use Rattle.airy_math.specs.declared.Shape.{Shape}
-use Rattle.airy_math.specs.Tensors.{Tensors}
-use Rattle.amp_plan.specs.Limits.{Within, limit_of, Tells}
-use Rattle.amp_plan.specs.Plans.{Planning, keys_of, tensors_of}
+use Rattle.amp_plan.specs.Limits.{Tells}
 use Rattle.amp_plan.specs.Needs.{edges_of}
-use Rattle.amp_plan.specs.declared.PlanCause.{PlanCause}
-use Rattle.amp_terms.specs.declared.Outcome.{Outcome}
-use Rattle.amp_terms.specs.Tables.{full_table, value_at, value_of_cell}
-use Rattle.sparse_tensor.specs.Entries.{Entries, looked_up}
 use Rattle.run_reports.specs.declared.tables.Form.{Form}
 use Rattle.run_reports.specs.declared.tables.Form.TheVariants as form
-use Rattle.run_reports.specs.Report.{Report, out_of_memory}
-use Rattle.run_reports.specs.Tables.{cause_report, plan_cells, stored_report}
-use Rattle.run_reports.specs.Forms.{count_text, formed, formed_cells, formed_stored, last_of, last_text, plan_rest, plan_summary, summary_text, summed}
 use Rattle.run_reports.proofs.ReportLemmas.{not_whole, report_of_plan, report_of_cause}
 
 -- ---- two texts, one behind the other

@@ -1,25 +1,10 @@
 -- A printed table has the headline.
-use Rattle.std.proofs.Common.{◌≡◌, ℕ, ◌<◌, ◌≤◌, refl, ap, ◌∙◌, subst, length, List, [], get_or}
-use Rattle.std.specs.Prelude.{cond}
-use Rattle.airy_math.specs.Keys.{Key}
-use Rattle.airy_math.specs.Rational.{ℚ, ◌*ℚ◌}
-use Rattle.airy_math.specs.Cuts.{letter_of, power}
-use Rattle.airy_math.specs.Series.{Series}
-use Rattle.airy_math.specs.Solutions.{Solves}
-use Rattle.airy_math.specs.Tensors.{Tensors}
-use Rattle.airy_math.specs.Planned.{planned}
-use Rattle.airy_math.specs.Ranks.{PlanLaw, key_at, place_of}
-use Rattle.airy_math.specs.Jobs.{Structure, Wk, Bgw, Wp, Bulk, Text, Lettered, IsSound, IsSolutionOf, letter_value, planned_tensors, tensors_at}
+use Rattle.std.proofs.Common.{◌≡◌, ℕ, ◌<◌, ◌≤◌, refl, ap, ◌∙◌, subst, length, List, [], get_or, cond}
+use Rattle.run_reports.proofs.Names.{Key, ℚ, ◌*ℚ◌, letter_of, power, Series, Solves, Tensors, planned, PlanLaw, key_at, place_of, Structure, Lettered, IsSound, IsSolutionOf, letter_value, planned_tensors, tensors_at, outcomes, full_table, value_of, JobUniquenessLaw, JobCheckedLaw, Shown, series_with, row_text, has_letter, whole_table, Headline, IsLine, ShowsNumber}
+use Rattle.airy_math.specs.Jobs.{Wk, Bgw, Wp, Bulk, Text}
 use Rattle.airy_math.proofs.ExactLaw.{power-one}
 use Rattle.amp_terms.specs.declared.Outcome.TheVariants.{Value, Over}
-use Rattle.amp_terms.specs.Outcomes.{outcomes}
-use Rattle.amp_terms.specs.Tables.{full_table, value_of}
-use Rattle.series_law.specs.Jobs.{JobUniquenessLaw, JobCheckedLaw}
-use Rattle.series_law.specs.Pivots.{Shown, series_with}
 use Rattle.amp_terms.proofs.OutcomeLemmas.{length-outcomes}
-use Rattle.run_reports.specs.Tables.{row_text}
-use Rattle.run_reports.specs.Structures.{has_letter, whole_table}
-use Rattle.run_reports.specs.Headline.{Headline, IsLine, ShowsNumber}
 use Rattle.run_reports.proofs.LineLemmas.{lines_of, rows-lines, length-lines, line_at}
 
 -- the laws that the headline rests on

@@ -1,3 +1,4 @@
+pub mod Names
 pub mod RowLemmas
 pub mod ReportLemmas
 pub mod StoredLemmas
@@ -10,6 +11,7 @@ pub mod StatusLemmas
 pub mod SourceLemmas
 pub mod AnswerLemmas
 pub mod CauseLemmas
+pub mod JobLemmas
 pub mod StructureLemmas
 pub mod StepLaw
 pub mod TableHeadline

@@ -1,22 +1,12 @@
 -- The lines of a table, and what its check finds.
-use Rattle.std.proofs.Common.{◌≡◌, ℕ, zero, suc, ◌<◌, refl, ap, arith, length, List, [], ◌∷◌, ◌++◌, map, get_or}
-use Rattle.std.specs.Prelude.{Bool, Some}
+use Rattle.std.proofs.Common.{◌≡◌, ℕ, zero, suc, ◌<◌, refl, ap, arith, length, List, [], ◌∷◌, ◌++◌, map, get_or, Bool, Some}
+use Rattle.run_reports.proofs.Names.{Key, planned, key_at, ℚ, Tensors, Shape, Outcome, has_value, outcomes, value_in, value_of, value_of_cell, Orders, check, check_keys, check_values, row_text, rows_text, verdict_of}
 use Rattle.std.specs.List.{concat}
-use Rattle.airy_math.specs.Keys.{Key}
-use Rattle.airy_math.specs.Planned.{planned}
-use Rattle.airy_math.specs.Ranks.{key_at}
-use Rattle.airy_math.specs.Rational.{ℚ}
-use Rattle.airy_math.specs.Tensors.{Tensors}
-use Rattle.airy_math.specs.declared.Shape.{Shape}
-use Rattle.amp_terms.specs.declared.Outcome.{Outcome}
 use Rattle.amp_terms.specs.declared.Outcome.TheVariants.{Value, Over, Blocked}
-use Rattle.amp_terms.specs.Outcomes.{has_value, outcomes, value_in}
-use Rattle.amp_terms.specs.Tables.{value_of, value_of_cell}
-use Rattle.series_law.specs.Check.{Verdict, Solution, NotValue, Orders, check, check_keys, check_values}
+use Rattle.series_law.specs.Check.{Verdict, Solution, NotValue}
 use Rattle.series_law.specs.First.{IsFirst}
 use Rattle.series_law.proofs.FirstLaw.{first_finding}
 use Rattle.amp_terms.proofs.OutcomeLemmas.{length-outcomes}
-use Rattle.run_reports.specs.Tables.{row_text, rows_text, verdict_of}
 
 abbrev pub lines_of : Bool → Shape → List Key → List Outcome → List (List ℕ)
 lines_of letter shape [] os = []

@@ -1,22 +1,11 @@
 -- What is printed of a plan, and why there is none.
-use Rattle.std.proofs.Common.{subst, arith, ◌≡◌, ◌≢◌, ◌⊎◌, inl, inr, ℕ, refl, sym, ap, ◌∙◌}
+use Rattle.std.proofs.Common.{subst, arith, ◌≡◌, ◌≢◌, ◌⊎◌, inl, inr, ℕ, refl, sym, ap, ◌∙◌, List, length, Option, Some}
+use Rattle.run_reports.proofs.Names.{Outcome, outcomes, planned, Entries, looked_up, Planning, keys_of, tensors_of, Within, limit_of, PlanCause, full_table, check, outcomes_of, Taking, Report, Ends, EndsOrWants, out_of_memory, bound_refused, checked_report, verdict_of, cells_report, plan_report, cause_report, stored_report}
 use Rattle.std.proofs.lemmas.List.{length-map}
 use Rattle.amp_terms.proofs.OutcomeLemmas.{length-all}
-use Rattle.std.specs.Prelude.{List, length, Option, Some}
-use Rattle.amp_terms.specs.declared.Outcome.{Outcome}
-use Rattle.amp_terms.specs.Outcomes.{outcomes}
-use Rattle.airy_math.specs.Planned.{planned}
-use Rattle.sparse_tensor.specs.Entries.{Entries, looked_up}
-use Rattle.amp_plan.specs.Plans.{Planning, keys_of, tensors_of}
-use Rattle.amp_plan.specs.Limits.{Within, limit_of, Tells}
-use Rattle.amp_plan.specs.declared.PlanCause.{PlanCause}
+use Rattle.amp_plan.specs.Limits.{Tells}
 use Rattle.amp_plan.specs.declared.PlanCause.TheVariants as cause
-use Rattle.amp_terms.specs.Tables.{full_table}
-use Rattle.series_law.specs.Check.{Verdict, check}
-use Rattle.constraint_check.specs.Ends.{outcomes_of}
-use Rattle.airy_io.specs.Causes.{Taking}
-use Rattle.run_reports.specs.Report.{Report, Ends, EndsOrWants, out_of_memory, bound_refused}
-use Rattle.run_reports.specs.Tables.{checked_report, verdict_of, cells_report, plan_report, cause_report, stored_report}
+use Rattle.series_law.specs.Check.{Verdict}
 
 -- what is printed of a table, by what its check finds
 pub cells_at : (p : Planning) (table : List (Option Outcome)) (v : Verdict) → table ≡ full_table (tensors_of p) p.bound → check (tensors_of p) p.bound (outcomes_of p) ≡ v

@@ -1,15 +1,8 @@
 -- The lines of a table, one after the other.
-use Rattle.std.proofs.Common.{◌≡◌, ℕ, zero, suc, ◌+◌, ◌<◌, ◌≤◌, Bool, List, [], ◌∷◌, ◌++◌, length, take, drop, refl, sym, ap, ap₂, ◌∙◌, subst, arith, append_assoc, append-nil, add-one}
-use Rattle.std.specs.Prelude.{Option, Some, None, Ok, Err}
+use Rattle.std.proofs.Common.{◌≡◌, ℕ, zero, suc, ◌+◌, ◌<◌, ◌≤◌, Bool, List, [], ◌∷◌, ◌++◌, length, take, drop, refl, sym, ap, ap₂, ◌∙◌, subst, arith, append_assoc, append-nil, add-one, Option, Some, None, Ok, Err}
+use Rattle.run_reports.proofs.Names.{Taking, Writes, Key, Shape, key_at, Outcome, value_at, value_of_cell, row_text, rows_text}
 use Rattle.std.specs.Io.KnownBytes.{Appends}
-use Rattle.airy_io.specs.Causes.{Taking, Writes}
 use Rattle.airy_io.proofs.Prefixes.{AppendsPrefix-more}
-use Rattle.airy_math.specs.Keys.{Key}
-use Rattle.airy_math.specs.declared.Shape.{Shape}
-use Rattle.airy_math.specs.Ranks.{key_at}
-use Rattle.amp_terms.specs.declared.Outcome.{Outcome}
-use Rattle.amp_terms.specs.Tables.{value_at, value_of_cell}
-use Rattle.run_reports.specs.Tables.{row_text, rows_text}
 
 -- the lines before a rank, its own, and those behind it
 pub rows-split : (letter : Bool) (shape : Shape) (keys : List Key) (cells : List (Option Outcome)) (r : ℕ) → r < length keys → length cells ≡ length keys
@@ -62,7 +55,7 @@ rows-done letter shape keys cells r a b x h l before kept = record {
   cause = record { later = omega arith; failed = tt; kept = kept };
 }
 
-nothing_taken : (a : Option (List ℕ)) → Appends a a []
+pub nothing_taken : (a : Option (List ℕ)) → Appends a a []
 nothing_taken None = tt
 nothing_taken (Some xs) = sym (append-nil xs)
 

@@ -1,14 +1,8 @@
 -- What a job with a text says of its source, and which text is meant.
-use Rattle.std.proofs.Common.{◌≡◌, ◌≢◌, ◌⊎◌, inl, inr, ℕ, ◌≤◌, ◌<◌, ◌++◌, arith, refl, ap, ◌∙◌, length, append-nil}
-use Rattle.std.specs.Prelude.{Option, Some, None, true, false, List, nat_le}
+use Rattle.std.proofs.Common.{◌≡◌, ◌≢◌, ◌⊎◌, inl, inr, ℕ, ◌≤◌, ◌<◌, ◌++◌, arith, refl, ap, ◌∙◌, length, append-nil, Option, Some, None, true, false, List, nat_le}
+use Rattle.run_reports.proofs.Names.{Giving, Rose, Entries, Report, read_fault, text_too_long, line_refused, Run, LeadsFromText, failed, wanting, long, refused, read, LeadsWithBound, beyond, within, of_reading, of_text}
 use Rattle.std.specs.Io.KnownBytes.{Consumes, IsAtEnd}
-use Rattle.airy_io.specs.Causes.{Giving, Rose}
-use Rattle.sparse_tensor.specs.Entries.{Entries}
 use Rattle.tensor_text.specs.Grammar as grammar
-use Rattle.run_reports.specs.Report.{Report}
-use Rattle.run_reports.specs.Texts.{read_fault, text_too_long, line_refused}
-use Rattle.run_reports.specs.Runs.{Run}
-use Rattle.run_reports.specs.Leads.{LeadsFromText, failed, wanting, long, refused, read, LeadsWithBound, beyond, within, of_reading, of_text}
 use Rattle.run_reports.proofs.StatusLemmas.{IsOther, status_of}
 
 -- no report that a text leads to is that of a refused word

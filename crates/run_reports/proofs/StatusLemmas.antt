@@ -1,25 +1,7 @@
 -- The statuses of the reports that a job leads to where no end fails and memory is not wanting.
-use Rattle.std.proofs.Common.{◌≡◌, ◌≢◌, ◌⊎◌, inl, inr, ℕ, ◌<◌, ◌≤◌, arith, refl, sym, subst, ap, length}
-use Rattle.std.specs.Prelude.{Option, Some, None, Bool, true, false, cond, List, nat_le}
-use Rattle.airy_math.specs.Planned.{planned}
-use Rattle.airy_math.specs.Tensors.{Tensors}
-use Rattle.airy_math.specs.Jobs.{Structure, planned_tensors}
-use Rattle.amp_plan.specs.Limits.{Limit, Within, PassesBound, PassesCells, PassesNeeds, limit}
-use Rattle.run_reports.specs.Structures.{has_letter}
-use Rattle.run_reports.specs.StructureTables.{making_over, table_report}
-use Rattle.amp_terms.specs.Tables.{full_table}
+use Rattle.std.proofs.Common.{◌≡◌, ◌≢◌, ◌⊎◌, inl, inr, ℕ, ◌<◌, ◌≤◌, arith, refl, sym, subst, ap, length, Option, Some, None, Bool, true, false, cond, List, nat_le}
+use Rattle.run_reports.proofs.Names.{planned, Tensors, Structure, planned_tensors, Limit, Within, PassesBound, PassesCells, PassesNeeds, limit, has_letter, making_over, table_report, full_table, Entries, looked_up, TextReading, Read, Refused, reading_of, Verdict, Closed, Differs, Over, verdict, Report, bound_refused, out_of_memory, making_report, plan_report, cells_report, checked_report, verdict_of, is_bound, text_too_long, line_refused, relations_report, of_relations, closed, of_reading, of_text}
 use Rattle.series_law.specs.Check as check
-use Rattle.sparse_tensor.specs.Entries.{Entries, looked_up}
-use Rattle.tensor_text.specs.Grammar.{TextReading, Read, Refused, reading_of}
-use Rattle.airy_relations.specs.declared.verdict.Verdict.{Verdict}
-use Rattle.airy_relations.specs.declared.verdict.Verdict.TheVariants.{Closed, Differs, Over}
-use Rattle.airy_relations.specs.Verdicts.{verdict}
-use Rattle.run_reports.specs.Report.{Report, bound_refused, out_of_memory}
-use Rattle.run_reports.specs.Tables.{making_report, plan_report, cells_report, checked_report, verdict_of}
-use Rattle.command_words.specs.Bounds.{is_bound}
-use Rattle.run_reports.specs.Texts.{text_too_long, line_refused}
-use Rattle.run_reports.specs.Relations.{relations_report, of_relations, closed}
-use Rattle.run_reports.specs.Leads.{of_reading, of_text}
 
 -- a status that is 0, or one from 3 to 7
 pub record IsPlain (report : Report) : Type 0 where
@@ -110,25 +92,10 @@ plain_cells letter T X = by (verdict_of T X)
 
 -- the report of each table
 pub plain_table : (s : Structure) (X : ℕ) → IsPlain (table_report s X)
-unfolding table_report making_report cells_report plan_report checked_report
-plain_table s X = by (is_bound X) (making_over s X) (limit T X) (verdict_of T X)
-  where
-    T : Tensors
-    T = planned_tensors s X
-
-    cells : check.Verdict → Report
-    cells v = checked_report (has_letter s) T.shape (planned T X) (full_table T X) v
-
-    by : (b : Bool) (o : Option ℕ) (l : Limit) (v : check.Verdict) → IsPlain (cond b (making_report o (plan_report X l (cells v))) (bound_refused X))
-    by false o l v = record { is = inr (omega arith, omega arith) }
-    by true (Some k) l v = record { is = inr (omega arith, omega arith) }
-    by true None Within check.Solution = record { is = inl refl }
-    by true None Within (check.NotValue r) = record { is = inr (omega arith, omega arith) }
-    by true None Within (check.Overflow key i) = record { is = inr (omega arith, omega arith) }
-    by true None Within (check.Orders key i a j b) = record { is = inr (omega arith, omega arith) }
-    by true None PassesBound v = record { is = inr (omega arith, omega arith) }
-    by true None (PassesCells level) v = record { is = inr (omega arith, omega arith) }
-    by true None (PassesNeeds key) v = record { is = inr (omega arith, omega arith) }
+unfolding table_report
+plain_table s X =
+    let T = planned_tensors s X in
+    plain_bound X _ (plain_making (making_over s X) _ (plain_plan X (limit T X) _ (plain_cells (has_letter s) T X)))
 
 -- ---- what follows
 

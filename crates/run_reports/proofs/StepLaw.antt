@@ -1,17 +1,7 @@
 -- The report of a table is that of its first step that refuses, or the whole table.
-use Rattle.std.proofs.Common.{◌≡◌, ℕ, refl, sym, ◌∙◌}
-use Rattle.std.specs.Prelude.{Option, Some, None, Bool, true, false, cond}
-use Rattle.airy_math.specs.Tensors.{Tensors}
-use Rattle.airy_math.specs.Planned.{planned}
-use Rattle.airy_math.specs.Jobs.{planned_tensors}
-use Rattle.amp_plan.specs.Limits.{Limit, Within, PassesBound, PassesCells, PassesNeeds, limit}
-use Rattle.amp_terms.specs.Tables.{full_table}
+use Rattle.std.proofs.Common.{◌≡◌, ℕ, refl, sym, ◌∙◌, Option, Some, None, Bool, true, false, cond}
+use Rattle.run_reports.proofs.Names.{Tensors, planned, planned_tensors, Limit, Within, PassesBound, PassesCells, PassesNeeds, limit, full_table, Report, bound_refused, making_report, checked_report, verdict_of, plan_report, cells_report, has_letter, whole_table, is_bound, making_over, table_report, Step, TableStepsLaw}
 use Rattle.series_law.specs.Check as check
-use Rattle.run_reports.specs.Report.{Report, bound_refused}
-use Rattle.run_reports.specs.Tables.{making_report, checked_report, verdict_of, plan_report, cells_report}
-use Rattle.run_reports.specs.Structures.{has_letter, whole_table}
-use Rattle.run_reports.specs.StructureTables.{is_bound, making_over, table_report}
-use Rattle.run_reports.specs.StructureTables.{Step, TableStepsLaw}
 use Rattle.run_reports.specs.StructureTables as steps
 
 pub table_steps : TableStepsLaw

@@ -1,21 +1,7 @@
 -- What is printed of stored tensors is what is printed of those that they stand for.
-use Rattle.std.proofs.Common.{◌≡◌, ℕ, ap, ◌∙◌}
-use Rattle.std.specs.Prelude.{Bool, List, Some, map}
-use Rattle.airy_math.specs.BelowDim.{BelowDimLaw}
-use Rattle.airy_math.specs.Keys.{Key}
-use Rattle.airy_math.specs.Planned.{planned}
-use Rattle.airy_math.specs.Ranks.{PlanLaw}
-use Rattle.airy_math.specs.Tensors.{Tensors, SameEntries}
-use Rattle.airy_math.specs.declared.Shape.{Shape}
-use Rattle.amp_plan.specs.Limits.{Limit, limit}
-use Rattle.amp_terms.specs.declared.Outcome.{Outcome}
-use Rattle.amp_terms.specs.Outcomes.{outcomes}
-use Rattle.amp_terms.specs.Tables.{full_table}
-use Rattle.series_law.specs.Check.{Verdict, check}
-use Rattle.series_law.specs.SameTables.{SameTablesLaw}
-use Rattle.sparse_tensor.specs.Entries.{Entries, looked_up}
-use Rattle.run_reports.specs.Report.{Report}
-use Rattle.run_reports.specs.Tables.{checked_report, verdict_of, cells_report, plan_report, stored_report}
+use Rattle.std.proofs.Common.{◌≡◌, ℕ, ap, ◌∙◌, Bool, List, Some, map}
+use Rattle.run_reports.proofs.Names.{BelowDimLaw, Key, planned, PlanLaw, Tensors, SameEntries, Shape, Limit, limit, Outcome, outcomes, full_table, check, SameTablesLaw, Entries, looked_up, Report, checked_report, verdict_of, cells_report, plan_report, stored_report}
+use Rattle.series_law.specs.Check.{Verdict}
 use Rattle.amp_plan.proofs.SameLimits.{limit_same}
 
 same_parts : (l m : Bool) (s t : Shape) (ks js : List Key) (os ps : List Outcome) (v w : Verdict) → l ≡ m → s ≡ t → ks ≡ js → os ≡ ps → v ≡ w

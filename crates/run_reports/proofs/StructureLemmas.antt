@@ -1,31 +1,10 @@
 -- What is printed of stored tensors is what is printed of those that they stand for.
-use Rattle.std.proofs.Common.{◌≢◌, arith, ◌≡◌, ◌⊎◌, inl, inr, ℕ, refl, sym, ap, ◌∙◌, false, cond, true, Bool}
-use Rattle.std.specs.Prelude.{List, map, Some, None, Option}
-use Rattle.airy_math.specs.Keys.{Key}
-use Rattle.airy_math.specs.declared.Shape.{Shape}
-use Rattle.amp_terms.specs.declared.Outcome.{Outcome}
-use Rattle.amp_terms.specs.Outcomes.{outcomes}
-use Rattle.airy_math.specs.Planned.{planned}
-use Rattle.airy_math.specs.Jobs.{Structure, Text, Lettered, planned_tensors}
-use Rattle.airy_math.specs.BelowDim.{BelowDimLaw}
-use Rattle.airy_math.specs.Ranks.{PlanLaw}
-use Rattle.series_law.specs.SameTables.{SameTablesLaw}
-use Rattle.sparse_tensor.specs.Entries.{Entries, looked_up}
-use Rattle.amp_plan.specs.Limits.{Limit, limit, Within, PassesBound, PassesCells, PassesNeeds}
-use Rattle.amp_terms.specs.Tables.{full_table}
-use Rattle.series_law.specs.Check.{Verdict, check}
+use Rattle.std.proofs.Common.{◌≢◌, arith, ◌≡◌, ◌⊎◌, inl, inr, ℕ, refl, sym, ap₂, subst, ◌∙◌, false, cond, true, Bool, List, Some, None, Option}
+use Rattle.run_reports.proofs.Names.{SameEntries, Key, Shape, Outcome, outcomes, planned, Structure, Lettered, planned_tensors, BelowDimLaw, PlanLaw, Tensors, SameTablesLaw, Entries, looked_up, Limit, limit, Within, PassesBound, PassesCells, PassesNeeds, full_table, check, FindsNoOrders, NoOrdersLaw, Close, AreSound, Taking, Report, Ends, EndsOrWants, out_of_memory, bound_refused, Names, MakeErr, checked_report, verdict_of, cells_report, plan_report, making_report, stored_report, is_bound, making_over, making_error, table_report, ArePlanned, text_structure, has_letter}
+use Rattle.airy_math.specs.Jobs.{Text}
+use Rattle.series_law.specs.Check.{Verdict}
 use Rattle.series_law.specs.Check as check
-use Rattle.airy_exists.specs.Existence.{FindsNoOrders, NoOrdersLaw}
-use Rattle.airy_math.specs.Relations.{Close}
-use Rattle.sparse_tensor.specs.Grades.{AreSound}
-use Rattle.airy_io.specs.Causes.{Taking}
-use Rattle.run_reports.specs.Report.{Report, Ends, EndsOrWants, out_of_memory, bound_refused}
-use Rattle.named_families.specs.Families.{Names}
-use Rattle.named_families.specs.declared.petersson.MakeErr.{MakeErr}
 use Rattle.named_families.specs.declared.petersson.MakeErr.TheVariants as make
-use Rattle.run_reports.specs.Tables.{checked_report, verdict_of, cells_report, plan_report, making_report, stored_report}
-use Rattle.run_reports.specs.StructureTables.{is_bound, making_over, making_error, table_report, ArePlanned}
-use Rattle.run_reports.specs.Structures.{text_structure, has_letter}
 use Rattle.run_reports.proofs.ReportLemmas.{ends_by}
 use Rattle.run_reports.proofs.StoredLemmas.{stored_same}
 
@@ -43,19 +22,37 @@ pub stood_report : (s : Structure) (t : Entries) (X : ℕ) → PlanLaw → Below
 stood_report s t X once below tables bounded made stored =
     planned_report s X bounded made ∙ sym (stored_same t (planned_tensors s X) (has_letter s) X once below tables stored.entries stored.letter)
 
+-- a text's own tensors and letter are those of its plan, and are always made
+pub text_planned : (t : Entries) (X : ℕ) → planned_tensors (text_structure t) X ≡ looked_up t
+unfolding text_structure planned_tensors
+text_planned t X = by t.letter
+  where
+    by : (b : Bool) → planned_tensors (cond b (Lettered (looked_up t)) (Text (looked_up t))) X ≡ looked_up t
+    by true = refl
+    by false = refl
+
+pub text_letter : (t : Entries) → has_letter (text_structure t) ≡ t.letter
+unfolding text_structure has_letter
+text_letter t = by t.letter
+  where
+    by : (b : Bool) → has_letter (cond b (Lettered (looked_up t)) (Text (looked_up t))) ≡ b
+    by true = refl
+    by false = refl
+
+text_made : (t : Entries) (X : ℕ) → making_over (text_structure t) X ≡ None
+unfolding text_structure making_over
+text_made t X = by t.letter
+  where
+    by : (b : Bool) → making_over (cond b (Lettered (looked_up t)) (Text (looked_up t))) X ≡ None
+    by true = refl
+    by false = refl
+
 -- the report of a text's own tensors
 pub text_stored : (t : Entries) (X : ℕ) → is_bound X ≡ true → table_report (text_structure t) X ≡ stored_report t X
-unfolding stored_report text_structure planned_tensors has_letter making_over
-text_stored t X bounded = planned_report (text_structure t) X bounded (made t.letter) ∙ by t.letter refl
-  where
-    made : (b : Bool) → making_over (cond b (Lettered (looked_up t)) (Text (looked_up t))) X ≡ None
-    made true = refl
-    made false = refl
-
-    by : (b : Bool) → t.letter ≡ b → plan_report X (limit (planned_tensors (cond b (Lettered (looked_up t)) (Text (looked_up t))) X) X) (cells_report (has_letter (cond b (Lettered (looked_up t)) (Text (looked_up t)))) (planned_tensors (cond b (Lettered (looked_up t)) (Text (looked_up t))) X) X)
-        ≡ plan_report X (limit (looked_up t) X) (cells_report t.letter (looked_up t) X)
-    by true e = ap (λ l. plan_report X (limit (looked_up t) X) (cells_report l (looked_up t) X)) (sym e)
-    by false e = ap (λ l. plan_report X (limit (looked_up t) X) (cells_report l (looked_up t) X)) (sym e)
+unfolding stored_report
+text_stored t X bounded =
+    planned_report (text_structure t) X bounded (text_made t X)
+    ∙ ap₂ (λ l (T : Tensors). plan_report X (limit T X) (cells_report l T X)) (text_letter t) (text_planned t X)
 
 -- where a structure's tensors aren't made: the report of a number that leaves the range, or want of memory
 pub error_ends : (s : Structure) (X : ℕ) (why : MakeErr) (before now : Taking) (result : ℕ) → is_bound X ≡ true → Names why (making_over s X)
@@ -102,12 +99,10 @@ table_never s X n = by (is_bound X)
 
 -- and that of a text whose relations hold
 pub text_never : NoOrdersLaw → (t : Entries) (X : ℕ) → AreSound t → Close (looked_up t) t.dim → (table_report (text_structure t) X).status ≢ 7
-unfolding text_structure planned_tensors looked_up
-text_never law t X sound close = table_never (text_structure t) X (by t.letter)
-  where
-    found : FindsNoOrders (check (looked_up t) X (outcomes (looked_up t) X))
-    found = law (looked_up t) sound.symmetric sound.graded close X
+unfolding looked_up
+text_never law t X sound close =
+    table_never (text_structure t) X
+    (subst (λ (T : Tensors). FindsNoOrders (check T X (outcomes T X))) (sym (text_planned t X)) (law (looked_up t) sound.symmetric sound.graded close X))
 
-    by : (b : Bool) → FindsNoOrders (check (planned_tensors (cond b (Lettered (looked_up t)) (Text (looked_up t))) X) X (outcomes (planned_tensors (cond b (Lettered (looked_up t)) (Text (looked_up t))) X) X))
-    by true = found
-    by false = found
+pub entries_self : (T : Tensors) → SameEntries T T
+entries_self T = record { dim = refl; shape = refl; A = λ i j k p q r. refl; B = λ i j k p q r. refl; C = λ i j k p q r. refl; D = λ i p. refl }

@@ -1,18 +1,10 @@
 -- A printed table has the headline, and two index orders that differ leave no solution.
 use Rattle.std.proofs.Common.{◌≡◌, ℕ, ◌<◌, sym, ap, subst, arith}
-use Rattle.airy_math.specs.Planned.{planned}
-use Rattle.airy_math.specs.Jobs.{Structure, IsSound, planned_tensors}
-use Rattle.airy_math.specs.declared.Family.{Family}
+use Rattle.run_reports.proofs.Names.{Structure, IsSound, planned_tensors, Family, Report, verdict_of, structure_of, table_report, whole_table, Headline, HasTwoOrders, Step, outside, unmade, limited, blank, over, orders, whole}
 use Rattle.airy_math.specs.declared.Family.TheVariants as families
 use Rattle.series_law.specs.Check.{Solution}
-use Rattle.run_reports.specs.Report.{Report}
-use Rattle.run_reports.specs.Tables.{verdict_of}
 use Rattle.run_reports.proofs.LineLemmas.{values_found, differ_of}
 use Rattle.run_reports.proofs.StatusLemmas.{status_of, some_bound}
-use Rattle.run_reports.specs.StructureTables.{structure_of, table_report}
-use Rattle.run_reports.specs.Structures.{whole_table}
-use Rattle.run_reports.specs.Headline.{Headline, HasTwoOrders}
-use Rattle.run_reports.specs.StructureTables.{Step, outside, unmade, limited, blank, over, orders, whole}
 use Rattle.run_reports.proofs.StepLaw.{table_steps}
 use Rattle.run_reports.proofs.HeadlineLemmas.{JobLaws, headline_by}
 
@@ -23,19 +15,24 @@ module _ (laws : JobLaws) (s : Structure) (X : ℕ) (sound : IsSound s) (some : 
   unfolding verdict_of
   headline = headline_by laws.unique laws.planned s X sound some (values_found (planned_tensors s X) X found) ((laws.checked s X sound some).solved found)
 
--- where a table's report is 0, it is of the whole table, which has the headline
-pub whole_of : JobLaws → (s : Structure) (X : ℕ) → IsSound s → (table_report s X).status ≡ 0
-    → (table_report s X ≡ record { status = 0; bytes = whole_table s X }) × Headline s X (whole_table s X)
-whole_of laws s X sound e = by (table_steps s X)
+-- where a table's report is 0, it is of the whole table, which was made
+pub whole_step : (s : Structure) (X : ℕ) → (table_report s X).status ≡ 0
+    → (0 < X) × (verdict_of (planned_tensors s X) X ≡ Solution) × (table_report s X ≡ record { status = 0; bytes = whole_table s X })
+whole_step s X e = by (table_steps s X)
   where
-    by : Step s X (table_report s X) → (table_report s X ≡ record { status = 0; bytes = whole_table s X }) × Headline s X (whole_table s X)
+    by : Step s X (table_report s X) → (0 < X) × (verdict_of (planned_tensors s X) X ≡ Solution) × (table_report s X ≡ record { status = 0; bytes = whole_table s X })
     by (outside b said) = absurd (omega (arith, e, status_of said))
     by (unmade b k m h) = absurd (omega (arith, e, h))
     by (limited b m l h) = absurd (omega (arith, e, h))
     by (blank made r found h) = absurd (omega (arith, e, status_of h))
     by (over made key i found h) = absurd (omega (arith, e, status_of h))
     by (orders made key i a j b found h) = absurd (omega (arith, e, status_of h))
-    by (whole made found said) = (said, headline laws s X sound (some_bound X made.bounded) found)
+    by (whole made found said) = (some_bound X made.bounded, found, said)
+
+-- and has the headline
+pub whole_of : JobLaws → (s : Structure) (X : ℕ) → IsSound s → (table_report s X).status ≡ 0
+    → (table_report s X ≡ record { status = 0; bytes = whole_table s X }) × Headline s X (whole_table s X)
+whole_of laws s X sound e = let w = whole_step s X e in (w.2, headline laws s X sound w.0 w.1)
 
 pub headline_of : JobLaws → (s : Structure) (X : ℕ) → IsSound s → (table_report s X).status ≡ 0 → Headline s X (table_report s X).bytes
 headline_of laws s X sound e = let w = whole_of laws s X sound e in subst (λ (r : Report). Headline s X r.bytes) (sym w.0) w.1

@@ -1,26 +1,14 @@
 -- What a job with a text leads to, from what the reader says and what its tensors lead to.
-use Rattle.std.proofs.Common.{◌≡◌, ℕ, ◌≤◌, refl, true, false}
-use Rattle.std.specs.Prelude.{Bool, Ok, Err, cond, ◌↔◌}
-use Rattle.airy_math.specs.Jobs.{Text, Lettered, IsSound, IsSolutionOf, planned_tensors, tensors_at}
-use Rattle.airy_math.specs.OwnTensors.{OwnTensorsLaw}
-use Rattle.airy_math.specs.Rational.{ℚ}
-use Rattle.airy_math.specs.RationalLaws.{1ℚ}
-use Rattle.airy_math.specs.Solutions.{Solves}
-use Rattle.airy_math.specs.Relations.{Close}
-use Rattle.airy_math.specs.Tensors.{IsGraded}
-use Rattle.sparse_tensor.specs.Entries.{Entries, looked_up}
-use Rattle.sparse_tensor.specs.Grades.{AreSound}
+use Rattle.std.proofs.Common.{subst, ◌≡◌, ℕ, ◌≤◌, refl, ap, true, false, arith, Bool, Ok, Err, cond, ◌↔◌}
+use Rattle.run_reports.proofs.Names.{bound_refused, beyond, Lettered, IsSound, IsSolutionOf, planned_tensors, tensors_at, OwnTensorsLaw, ℚ, 1ℚ, Solves, Close, IsGraded, Entries, looked_up, AreSound, Giving, Taking, Report, Ends, out_of_memory, Verdict, Closed, Differs, Over, verdict, relations_report, of_relations, closed, text_report, is_bound, text_structure, AreClosed, IsOwn, failed, wanting, long, refused, read, within, EndsBy, EndsOfText, EndsWithBound}
+use Rattle.run_reports.specs.Inputs.{ReadsBounded, input_report}
+use Rattle.run_reports.specs.declared.texts.InputErr.{InputErr}
+use Rattle.run_reports.specs.declared.texts.InputErr.TheVariants as inputs
+use Rattle.airy_math.specs.Jobs.{Text}
 use Rattle.tensor_text.specs.Answers.{Reads, HasReadCause}
 use Rattle.tensor_text.specs.declared.refusals.TextErr.{TextErr}
 use Rattle.tensor_text.specs.declared.refusals.TextErr.TheVariants as texts
-use Rattle.airy_io.specs.Causes.{Giving, Taking}
-use Rattle.run_reports.specs.Report.{Report, Ends, out_of_memory}
-use Rattle.run_reports.specs.Texts.{text_report}
-use Rattle.command_words.specs.Bounds.{is_bound}
-use Rattle.run_reports.specs.Structures.{text_structure, AreClosed, IsOwn}
 use Rattle.series_law.specs.Letters.{WidenedRelationsLaw}
-use Rattle.run_reports.specs.Leads.{failed, wanting, long, refused, read, within}
-use Rattle.run_reports.specs.Ends.{EndsBy, EndsOfText, EndsWithBound}
 
 pub read_ends : (next : Entries → Report → Type 0) (old new : Giving) (w w' : Taking) (status : ℕ) (t : Entries)
     → Reads old new (Ok t) → HasReadCause {T = Entries} old.faults new.faults (Ok t) → EndsBy (next t) w w' status → EndsOfText next old new w w' status
@@ -37,6 +25,17 @@ refusal_ends next old new w w' status texts.NoMemory reads cause e = (out_of_mem
 pub within_bound : (X : ℕ) (next : Entries → Report → Type 0) (old new : Giving) (w w' : Taking) (status : ℕ)
     → is_bound X ≡ true → EndsOfText next old new w w' status → EndsWithBound X next old new w w' status
 within_bound X next old new w w' status bounded e = (e.0, within bounded e.1, e.2)
+
+-- the same, with the bound
+pub bounded_ends : (X : ℕ) (next : Entries → Report → Type 0) (old new : Giving) (w w' : Taking) (status : ℕ) (t : Entries)
+    → ReadsBounded X old new (Ok t) → EndsBy (next t) w w' status → EndsWithBound X next old new w w' status
+bounded_ends X next old new w w' status t reads e = within_bound X next old new w w' status reads.0 (read_ends next old new w w' status t reads.1 reads.2 e)
+
+pub input_ends : (X : ℕ) (next : Entries → Report → Type 0) (old new : Giving) (w w' : Taking) (status : ℕ) (why : InputErr)
+    → ReadsBounded X old new (Err why) → Ends (input_report why) w w' status → EndsWithBound X next old new w w' status
+unfolding input_report
+input_ends X next old new w w' status (inputs.Bound n) reads e = (bound_refused X, beyond reads.0 reads.2 refl, subst (λ n. Ends (bound_refused n) w w' status) reads.1 e)
+input_ends X next old new w w' status (inputs.Text why) reads e = within_bound X next old new w w' status reads.0 (refusal_ends next old new w w' status why reads.1 reads.2 e)
 
 pub text_sound : (t : Entries) → AreSound t → IsSound (text_structure t)
 unfolding text_structure IsSound
@@ -66,3 +65,13 @@ are_closed law t graded close = record { own = close; everywhere = by t.letter }
     by : (b : Bool) (m : ℕ) (v : ℚ) → t.dim ≤ m → Close (tensors_at (cond b (Lettered (looked_up t)) (Text (looked_up t))) m v) m
     by true m v wide = law (looked_up t) graded close m v wide
     by false m v wide = law (looked_up t) graded close m 1ℚ wide
+
+-- where a check of the entries' relations fails: the report is what it leads to, whatever comes behind it, and its status is 4 or 6
+pub fails_by : {leads : Report → Type 0} (t : Entries) (next : Report) (w w' : Taking) (status : ℕ) (v : Verdict) → v ≡ verdict (looked_up t) t.dim → (v ≡ Closed → ⊥)
+    → ((report : Report) → report ≡ of_relations t next → 4 ≤ report.status → report.status ≤ 6 → leads report) → Ends (relations_report v closed) w w' status → EndsBy leads w w' status
+unfolding relations_report of_relations
+fails_by t next w w' status Closed found fails leads e = absurd (fails refl)
+fails_by t next w w' status (Differs rel place left right) found fails leads e =
+    (_, leads (relations_report (Differs rel place left right) closed) (ap (λ v. relations_report v next) found) (omega arith) (omega arith), e)
+fails_by t next w w' status (Over rel place) found fails leads e =
+    (_, leads (relations_report (Over rel place) closed) (ap (λ v. relations_report v next) found) (omega arith) (omega arith), e)

@@ -1,6 +1,7 @@
 -- What a run answers and writes: statuses and the lines of refusals, tables and their summaries.
 pub mod Report
 pub mod Texts
+pub mod Inputs
 pub mod Relations
 pub mod Tables
 pub mod Forms

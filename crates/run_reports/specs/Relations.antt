@@ -1,5 +1,5 @@
 -- What is written of the five relations.
-use Rattle.std.specs.Prelude.{◌≡◌, ℕ, ◌+◌, min, List, ◌++◌, codes, take}
+use Rattle.std.specs.Prelude.{◌≡◌, ℕ, min, List, ◌++◌, codes, take}
 use Rattle.airy_index.specs.Text.{spaced}
 use Rattle.frac128.specs.Fraction.{fraction_text}
 use Rattle.airy_relations.specs.declared.verdict.Rel.{Rel}

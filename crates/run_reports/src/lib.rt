@@ -2,6 +2,7 @@
 #![tactic(auto)]
 
 mod families;
+mod given;
 mod pivots;
 mod relations;
 mod report;
@@ -9,10 +10,11 @@ mod tables;
 mod texts;
 
 pub use families::{refuse_making, tensors_of};
+pub use given::words_given;
 pub use pivots::{refuse_orders, refuse_pivot};
 pub use relations::{say_relations, say_verdict};
 pub use report::{
     put_fraction, refuse, refuse_bound, refuse_key, refuse_memory, refuse_number, refuse_word, say,
 };
 pub use tables::{Form, print_stored, print_table, refuse_plan};
-pub use texts::refuse_text;
+pub use texts::{InputErr, read_bounded, refuse_input, refuse_text};

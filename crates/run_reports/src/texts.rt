@@ -1,10 +1,50 @@
-ghost use Rattle.std.specs.Prelude.{◌≡◌, ◌≤◌, length};
+ghost use Rattle.std.specs.Prelude.{◌≡◌, ◌≤◌, ◌<◌, length, IsTrue, OnOk};
+ghost use Rattle.command_words.specs.Bounds.{is_bound};
+ghost use Rattle.run_reports.specs.Inputs.{ReadsBounded, input_report};
 ghost use Rattle.run_reports.specs.Report.{Ends};
 ghost use Rattle.run_reports.specs.Texts.{kind_text, line_refused, text_report};
 
-use crate::report::{refuse, refuse_memory, say};
-use airy_io::{LineText, Sink};
-use tensor_text::{LineKind, TextErr};
+use crate::report::{refuse, refuse_bound, refuse_memory, say};
+use airy_io::{LineText, Sink, Source};
+use command_words::is_bound;
+use sparse_tensor::Tensors;
+use std::alloc::Global;
+use tensor_text::{LineKind, TextErr, read_tensors};
+
+/// Why a bound with a text behind it gives no tensors.
+#[derive(Clone, Copy, Debug, PartialEq, Eq)]
+pub enum InputErr {
+    /// The bound isn't from 1 to 24: nothing was read.
+    Bound(u32),
+    Text(TextErr),
+}
+
+/// Reads the tensors of the source's text, where a table is made up to the bound.
+pub fn read_bounded<S: Source>(alloc: Global, bound: u32, src: &mut S) -> Result<Tensors, InputErr>
+    ensures read { ReadsBounded bound (S.state src.old) (S.state src.new) result }
+    ensures bound { OnOk result (IsTrue (is_bound bound)) }
+    ensures some { OnOk result (0 < bound) }
+    ensures most { OnOk result (bound ≤ 24) }
+{
+    if !is_bound(bound) {
+        return Err(InputErr::Bound(bound));
+    }
+    match read_tensors(alloc, src) {
+        Ok(tensors) => Ok(tensors),
+        Err(refusal) => Err(InputErr::Text(refusal)),
+    }
+}
+
+/// Says why a bound with a text behind it gives no tensors.
+#[tactic(auto, unfolding(crate::specs::Inputs::input_report))]
+pub fn refuse_input<W: Sink>(out: &mut W, refusal: InputErr) -> u8
+    ensures { Ends (input_report refusal) (W.state out.old) (W.state out.new) result }
+{
+    match refusal {
+        InputErr::Bound(bound) => refuse_bound(out, bound),
+        InputErr::Text(refusal) => refuse_text(out, refusal),
+    }
+}
 
 /// Says why a text gives no tensors.
 #[tactic(auto, unfolding(crate::specs::Texts::text_report, crate::specs::Texts::text_too_long, crate::specs::Texts::read_fault))]

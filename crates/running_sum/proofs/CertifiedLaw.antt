@@ -16,7 +16,7 @@ use Rattle.airy_math.specs.RationalLaws.{0ℚ, add_fractions, mul_fractions}
 use Rattle.airy_math.specs.Obtained.{fits, obtained_sum, obtained_product, obtained_from, both_obtained}
 use Rattle.running_sum.specs.Certified.{total, sizes, CertifiedLaw}
 
-positive-product : (d e : ℕ) → 0 < d → 0 < e → 0 < d * e
+pub positive-product : (d e : ℕ) → 0 < d → 0 < e → 0 < d * e
 positive-product d e p q = grind arith
 
 fits-true : (z : ℤ) → unsigned_abs z < 2 ^ 127 → fits z ≡ true

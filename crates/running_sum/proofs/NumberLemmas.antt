@@ -1,21 +1,14 @@
 -- Whole numbers that fit, and the twos of a number.
 use Rattle.std.proofs.Common.{◌≡◌, ℕ, zero, suc, ◌+◌, ◌-◌, ◌*◌, ◌/◌, ◌%◌, ◌<◌, refl, sym, ◌∙◌, ap, arith, ℤ, pos, negsuc, unsigned_abs}
-use Rattle.std.specs.Int.{w128}
 use Rattle.std.specs.Int.Count.{count_trailing_zeros, under}
-use Rattle.std.specs.Prelude.{FitsSigned, ◌^◌, IfOk, IsErrOf, Some, Ok, Err, Result}
+use Rattle.std.specs.Prelude.{◌^◌, IfOk, IsErrOf, Some, Ok, Err, Result}
 use Rattle.std.specs.Result.{result_ok}
-use Rattle.std.proofs.Math.Nat.{pow-suc, mul_comm, div-div-eq-div-mul}
+use Rattle.std.proofs.Math.Nat.{pow-suc, mul_comm, div-div-eq-div-mul, div-mul-le_self}
 use mathlib.Core.Logic.{◌⊎◌, inl, inr}
 use Rattle.airy_math.specs.Rational.{ℚ}
 use Rattle.frac128.specs.declared.fraction.FracErr.{FracErr}
 use Rattle.frac128.specs.declared.fraction.FracErr.TheVariants.{ZeroDen, Over}
-
-pub small_number : (z : ℤ) → unsigned_abs z < 2 ^ 127 → FitsSigned w128 z
-small_number (pos n) h = record { sfits = h }
-small_number (negsuc n) h = record { sfits = let below : n < 2 ^ 127 = omega arith in below }
-
-halves : (n q t : ℕ) → n % 2 ≡ 0 → q * 2 ^ t ≡ n / 2 → q * 2 ^ suc t ≡ n
-halves n q t e h = let p = pow-suc 2 t in let a : q * (2 ^ t * 2) ≡ q * 2 ^ t * 2 = omega arith in ap (λ x. q * x) p ∙ a ∙ (let b : q * 2 ^ t * 2 ≡ n = omega arith in b)
+use Rattle.frac128.proofs.TwosLemmas.{halves}
 
 -- the part without the zeros at the end of a number
 pub zeros_split : (k n : ℕ) → 0 < n → n < 2 ^ k → n / 2 ^ count_trailing_zeros k n * 2 ^ count_trailing_zeros k n ≡ n
@@ -34,6 +27,13 @@ zeros_split (suc k) n p h =
         → n / 2 ^ under d (count_trailing_zeros k (n / 2)) * 2 ^ under d (count_trailing_zeros k (n / 2)) ≡ n
     by zero e f = even (count_trailing_zeros k (n / 2)) e (f (omega arith))
     by (suc d) e f = let a : n / 2 ^ 0 * 2 ^ 0 ≡ n = omega arith in a
+
+pub any_split : (k n : ℕ) → n < 2 ^ k → n / 2 ^ count_trailing_zeros k n * 2 ^ count_trailing_zeros k n ≡ n
+any_split k zero h = none (2 ^ count_trailing_zeros k 0)
+  where
+    none : (m : ℕ) → 0 / m * m ≡ 0
+    none m = let l = div-mul-le_self 0 m in omega arith
+any_split k (suc n) h = zeros_split k (suc n) (omega arith) h
 
 -- a fraction of numbers in range is made
 pub made : (r : Result ℚ FracErr) (q : ℚ) → (IsErrOf r ZeroDen → ⊥) → (IsErrOf r Over → ⊥) → IfOk r (λ f. f ≡ q) → result_ok r ≡ Some q

@@ -1,6 +1,8 @@
 -- Sums and products of fractions that need not be in lowest terms.
 use Rattle.std.proofs.Common.{◌≡◌, subst, ℕ, zero, suc, ◌+◌, ◌-◌, ◌*◌, ◌<◌, ◌≤◌, refl, sym, ◌∙◌, ap, ap₂, arith, ℤ, pos, negsuc, ◌+ℤ◌, ◌*ℤ◌, unsigned_abs}
-use Rattle.std.specs.Prelude.{Option, Some, None, ◌^◌, nat_eq, false, FitsSigned}
+use Rattle.std.specs.Prelude.{Option, Some, None, ◌^◌, nat_eq, true, false, not, FitsSigned}
+use Rattle.std.specs.Option.{is_some}
+use lib.Dec.{eqb}
 use Rattle.std.specs.Int.{w64}
 use Rattle.std.proofs.lemmas.Int.{unsigned_abs-mul, ints}
 use Rattle.std.proofs.lemmas.Nat.{pow_pos, pow-add, mul-lt, mul-le, shl_below, pow_below}
@@ -10,10 +12,7 @@ use Rattle.std.proofs.lemmas.Bool.{cases_lt}
 use Rattle.airy_math.specs.Rational.{ℚ, ◌/ℚ◌, positive, cross, parts_lem, whole}
 use Rattle.airy_math.specs.Obtained.{obtained_sum, obtained_product, both_obtained, ◌⊛◌}
 use Rattle.running_sum.specs.Kept.{fraction_of}
-use Rattle.running_sum.proofs.CertifiedLaw.{raised, product, sum}
-
-pub positive-product : (d e : ℕ) → 0 < d → 0 < e → 0 < d * e
-positive-product d e p q = grind arith
+use Rattle.running_sum.proofs.CertifiedLaw.{raised, product, sum, positive-product}
 
 pub some_of : (n : ℤ) (o k : ℕ) → 0 < o → fraction_of n o k ≡ Some (n /ℚ (o * 2 ^ k))
 unfolding fraction_of
@@ -162,3 +161,18 @@ words_fit a b f g =
     let e = unsigned_abs-mul a b in
     let l = mul-le (unsigned_abs a) (unsigned_abs b) (2 ^ 63) (2 ^ 63) (word_fits a f) (word_fits b g) in
     omega arith
+
+-- n/d, and n over the odd part of d and its twos
+pub without_twos : (n : ℤ) (o k d : ℕ) → o * 2 ^ k ≡ d → fraction_of n o k ≡ fraction_of n d 0
+without_twos n zero k d e = none_of n k ∙ sym (ap (λ t. fraction_of n t 0) (sym e ∙ zero-times (2 ^ k)) ∙ none_of n 0)
+  where
+    zero-times : (p : ℕ) → 0 * p ≡ 0
+    zero-times p = omega arith
+without_twos n (suc o) k d e = some_of n (suc o) k (omega arith) ∙ ap (λ t. Some (n /ℚ t)) (e ∙ one d) ∙ sym (some_of n d 0 (subst (λ t. 0 < t) e (positive-product (suc o) (2 ^ k) (omega arith) (pow_pos k))))
+  where
+    one : (d : ℕ) → d ≡ d * 2 ^ 0
+    one d = omega arith
+
+pub some_fraction : (n : ℤ) (d : ℕ) → not (eqb d 0) ≡ is_some (fraction_of n d 0)
+some_fraction n zero = sym (ap is_some (none_of n 0))
+some_fraction n (suc d) = let e : not (eqb (suc d) 0) ≡ true = grind arith in e ∙ sym (ap is_some (some_of n (suc d) 0 (omega arith)))

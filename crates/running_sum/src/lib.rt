@@ -6,11 +6,13 @@
 
 ghost use Rattle.running_sum.specs.Certified.{CertifiedLaw};
 
+mod number;
 mod sizes;
 mod terms;
 mod unreduced;
 mod words;
 
+pub use number::Number;
 pub use unreduced::Unreduced;
 
 /// A law: multiples of one fraction 1/D are added, in any order, where D and the sum of their sizes are in range, and fractions

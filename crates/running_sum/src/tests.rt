@@ -1,4 +1,4 @@
-use crate::Unreduced;
+use crate::{Number, Unreduced};
 use frac128::Frac;
 use std::process::Abort;
 use std::test::Fail;
@@ -7,6 +7,10 @@ const GREATEST: i128 = i128::MAX;
 
 fn fraction(num: i128, den: i128) -> Result<Frac, Fail> {
     Ok(Frac::new(num, den).map_err(|_| "no fraction")?)
+}
+
+fn number(num: i128, den: i128) -> Result<Number, Fail> {
+    Ok(Number::of(fraction(num, den)?))
 }
 
 /// The sum of two, beside the sum in lowest terms.
@@ -42,8 +46,8 @@ fn steps_out_of_range(rt: HostRuntime) -> Result<(), Fail> {
     sum.add_twice(
         Some(fraction(GREATEST, 1)?),
         2,
-        Frac::whole(0),
-        Frac::whole(1),
+        Number::of(Frac::whole(0)),
+        Number::of(Frac::whole(1)),
     );
     assert_eq!(rt; sum.value(), None);
     Ok(())
@@ -52,11 +56,38 @@ fn steps_out_of_range(rt: HostRuntime) -> Result<(), Fail> {
 #[test]
 fn terms(rt: HostRuntime) -> Result<(), Fail> {
     let mut sum = Unreduced::of(Frac::whole(0));
-    sum.add_once(3, fraction(1, 4)?, fraction(2, 9)?);
-    sum.add_joined(Some(fraction(1, 1 << 70)?), fraction(1 << 70, 3)?);
-    sum.add_twice(Some(fraction(1, 2)?), 6, fraction(5, 8)?, fraction(-7, 5)?);
+    sum.add_once(3, fraction(1, 4)?, number(2, 9)?);
+    sum.add_joined(Some(fraction(1, 1 << 70)?), number(1 << 70, 3)?);
+    sum.add_twice(Some(fraction(1, 2)?), 6, number(5, 8)?, number(-7, 5)?);
     assert_eq!(rt; sum.value(), Some(fraction(-17, 8)?));
-    sum.add_joined(None, Frac::whole(0));
+    sum.add_joined(None, Number::of(Frac::whole(0)));
     assert_eq!(rt; sum.value(), None);
+    Ok(())
+}
+
+/// Whether a fraction is got back from the number that is made of it, and from that number to be added.
+fn is_kept(v: Frac) -> bool {
+    Number::of(v).is_fraction()
+        && Number::of(v).value() == Some(v)
+        && Number::of(v).unreduced().value() == Some(v)
+}
+
+#[test]
+fn numbers(rt: HostRuntime) -> Result<(), Fail> {
+    let odd = (1 << 63) - 1;
+    let rows = [
+        (0, 1),
+        (-3, 8),
+        (odd, 1 << 63),
+        (-odd - 1, 3),
+        (5, (1 << 64) - 1),
+        (7, 1 << 64),
+        (GREATEST, GREATEST - 1),
+    ];
+    for (num, den) in rows {
+        assert!(rt; is_kept(fraction(num, den)?));
+    }
+    assert!(rt; !Number::Short { num: 1, den: 0 }.is_fraction());
+    assert_eq!(rt; Number::Short { num: 1, den: 0 }.value(), None);
     Ok(())
 }

@@ -1,6 +1,7 @@
-ghost use Rattle.std.specs.Prelude.{◌≡◌, ◌<◌, ◌^◌, Some, IfSome};
+ghost use Rattle.std.specs.Prelude.{◌≡◌, ◌<◌, ◌^◌, Some, None, IfSome};
 ghost use Rattle.airy_math.specs.Rational.{ℚ, whole};
 ghost use Rattle.airy_math.specs.Obtained.{◌⊛◌};
+ghost use Rattle.running_sum.specs.Kept.{fraction_of};
 
 use crate::sizes::{is_short, word};
 use crate::unreduced::Unreduced;
@@ -43,13 +44,7 @@ impl Word {
         let den = den as u128;
         if den >> 64 == 0 {
             // a shift of one word is faster than one of two
-            let den = den as u64;
-            let twos = den.trailing_zeros();
-            return Some(Word {
-                num,
-                odd: den >> twos,
-                twos,
-            });
+            return Word::over(num, den as u64);
         }
         let twos = den.trailing_zeros();
         let odd = den >> twos;
@@ -61,6 +56,34 @@ impl Word {
             odd: odd as u64,
             twos,
         })
+    }
+
+    /// num/den, and none exactly where den is 0.
+    #[inline(always)]
+    pub(crate) fn over(num: i64, den: u64) -> Option<Word>
+        ensures whole { IfSome result (λ w. w ≡ fraction_of num den 0) }
+        ensures none { result ≡ None → den ≡ 0 }
+    {
+        let twos = den.trailing_zeros();
+        if twos > 63 {
+            return None;
+        }
+        Some(Word {
+            num,
+            odd: den >> twos,
+            twos,
+        })
+    }
+
+    /// The same to be added or multiplied by any other.
+    pub(crate) fn unreduced(&self) -> Unreduced
+        ensures { result ≡ self.now }
+    {
+        Unreduced {
+            num: i128::from(self.num),
+            odd: u128::from(self.odd),
+            twos: self.twos,
+        }
     }
 
     /// A whole number.

@@ -1,16 +1,8 @@
 -- What a table shows at a key is what every solution has there.
-use Prim.Native.Nat.{ℕ, zero, suc, ◌<◌, ◌≤◌}
-use mathlib.Core.Path.{◌≡◌, refl, sym, ap, subst, ◌∙◌}
-use mathlib.Core.Bool.{Bool, true, false, cond}
-use mathlib.Core.List.{List, [], ◌∷◌, map}
-use mathlib.Core.Logic.{◌⊎◌, inl, inr}
-use lib.ListN.{length, get_or}
-use Rattle.std.specs.Prelude.{Option, Some, None, IfSome}
+use Rattle.std.proofs.Common.{ℕ, ◌≡◌, refl, sym, ap, subst, ◌∙◌, true, List, ◌⊎◌, inl, inr, get_or, Option, Some, None, IfSome}
 use Rattle.airy_math.specs.Rational.{ℚ}
 use Rattle.airy_math.specs.RationalLaws.{0ℚ}
 use Rattle.airy_math.specs.Keys.{Key}
-use Rattle.airy_math.specs.Series.{Series}
-use Rattle.airy_math.specs.Solutions.{Solves, amplitude}
 use Rattle.airy_index.specs.Fields.{IsKey}
 use Rattle.sparse_tensor.specs.Entries.{Entries, looked_up}
 use Rattle.sparse_tensor.specs.Grades.{AreSound}

@@ -1,9 +1,5 @@
 -- What the check of a job's table says of the job's solutions.
-use Prim.Native.Nat.{ℕ, suc, ◌+◌, ◌-◌}
-use mathlib.Core.Path.{◌≡◌, refl, sym, ap, ◌∙◌}
-use mathlib.Core.Bool.{Bool, true, false, ◌&&◌}
-use native.Mathlib.Omega.{arith}
-use lib.Dec.{leb, eqb}
+use Rattle.std.proofs.Common.{ℕ, suc, ◌+◌, ◌-◌, ◌≡◌, refl, sym, ap, ◌∙◌, Bool, true, false, ◌&&◌, arith, leb, eqb}
 use Rattle.airy_math.specs.Rational.{ℚ}
 use Rattle.airy_math.specs.RationalLaws.{0ℚ, 1ℚ}
 use Rattle.airy_math.specs.Keys.{Key}
@@ -13,7 +9,7 @@ use Rattle.airy_math.specs.Sums.{when}
 use Rattle.airy_math.specs.Tensors.{Tensors, IsSymmetric, IsGraded}
 use Rattle.airy_math.specs.Families.{top_wk, top_bgw, wp_cut, wp_number}
 use Rattle.airy_math.specs.Jobs.{Structure, Wk, Bgw, Wp, Bulk, Text, Lettered, IsSolutionOf, IsSound, letter_value, planned_tensors, tensors_at}
-use Rattle.airy_math.proofs.FamilyLaw.{wk_graded, wk_symmetric, bgw_graded, bgw_symmetric, wp_cut_graded}
+use Rattle.airy_math.proofs.FamilyLaw.{wk_graded, wk_symmetric, bgw_graded, bgw_symmetric, wp_cut_graded, wp_cut_symmetric}
 use Rattle.airy_math.proofs.FamilyPlans.{le_self}
 use Rattle.airy_math.proofs.JobCutLaw.{ready}
 use Rattle.airy_math.proofs.PowerLemmas.{power_not_zero, power_none}
@@ -24,29 +20,12 @@ use Rattle.series_law.proofs.CheckLaw.{check_law, two_orders}
 use Rattle.series_law.proofs.PivotsLaw.{cut_orders}
 use Rattle.series_law.proofs.JobLaw.{job_solution}
 
-exchanged : (p q r : Bool) → (p && q && r) ≡ (p && r && q)
-exchanged true true true = refl
-exchanged true true false = refl
-exchanged true false true = refl
-exchanged true false false = refl
-exchanged false q r = refl
-
-wp_cut_symmetric : (dim most : ℕ) → IsSymmetric (wp_cut dim most)
-unfolding wp_cut
-wp_cut_symmetric dim most = record {
-  A = λ i a b. ap (λ t. when t 1ℚ) (exchanged (eqb i 0) (eqb a 0) (eqb b 0));
-  C = λ i a b. ap (λ n. when (leb i n && leb (n - i) most) (wp_number (n - i))) (both a b);
-}
-  where
-    both : (a b : ℕ) → a + b + 2 ≡ b + a + 2
-    both a b = omega arith
-
 -- The tensors of a job's plan are symmetric and keep the grading.
-record ArePlanned (T : Tensors) : Type 0 where
-  symmetric : IsSymmetric T
-  graded : IsGraded T
+pub record ArePlanned (T : Tensors) : Type 0 where
+  pub symmetric : IsSymmetric T
+  pub graded : IsGraded T
 
-plan_sound : (s : Structure) (X : ℕ) → IsSound s → ArePlanned (planned_tensors s X)
+pub plan_sound : (s : Structure) (X : ℕ) → IsSound s → ArePlanned (planned_tensors s X)
 unfolding planned_tensors IsSound
 plan_sound Wk X h = record { symmetric = wk_symmetric (top_wk X); graded = wk_graded (top_wk X) }
 plan_sound Bgw X h = record { symmetric = bgw_symmetric (top_bgw X); graded = bgw_graded (top_bgw X) }

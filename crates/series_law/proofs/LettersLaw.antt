@@ -1,11 +1,5 @@
 -- The five expressions of widened tensors are those of the tensors, times the letter's power, and so are their relations.
-use Prim.Native.Nat.{ℕ, zero, suc, ◌+◌, ◌<◌, ◌≤◌}
-use mathlib.Core.Path.{◌≡◌, refl, sym, ap, ap₂, ◌∙◌}
-use mathlib.Core.List.{List, [], ◌∷◌}
-use mathlib.Core.Logic.{◌⊎◌, inl, inr}
-use native.Mathlib.Nat.{add_comm}
-use native.Mathlib.Omega.{arith}
-use lib.IntN.{ℤ, pos, ◌+ℤ◌, ◌*ℤ◌, ◌-ℤ◌}
+use Rattle.std.proofs.Common.{ℕ, zero, suc, ◌+◌, ◌<◌, ◌≤◌, ◌≡◌, refl, sym, ap, ap₂, ◌∙◌, List, [], ◌∷◌, ◌⊎◌, inl, inr, add_comm, arith, ℤ, pos, ◌+ℤ◌, ◌*ℤ◌, ◌-ℤ◌}
 use Rattle.std.proofs.lemmas.Int.{ints}
 use Rattle.std.proofs.lemmas.Bool.{cases_lt}
 use Rattle.airy_math.specs.Rational.{ℚ, ◌+ℚ◌, ◌*ℚ◌}

@@ -1,12 +1,7 @@
 -- Tensors with the same entries below dim have the same tables.
-use Prim.Native.Nat.{ℕ, ◌<◌}
-use mathlib.Core.Path.{◌≡◌, refl, sym, ap, ap₂, subst, ◌∙◌}
-use mathlib.Core.List.{[], List, ◌∷◌, ◌++◌, map}
-use Rattle.std.specs.Prelude.{Some}
-use lib.IntN.{pos}
-use lib.ListN.{length, get_or}
+use Rattle.std.proofs.Common.{ℕ, ◌≡◌, refl, sym, ap, ap₂, subst, ◌∙◌, [], List, ◌∷◌, ◌++◌, map, Some, pos, length, get_or, Bool, cond, inl, inr}
 use Rattle.airy_math.specs.Rational.{ℚ, ◌*ℚ◌, ◌/ℚ◌}
-use Rattle.airy_math.specs.Keys.{Key, head_or, times, remove, key_of, indices}
+use Rattle.airy_math.specs.Keys.{Key, head_or, remove, key_of, indices}
 use Rattle.airy_math.specs.Tensors.{Tensors, SameEntries}
 use Rattle.airy_math.specs.Terms.{terms, pivot_sum, obtained_term, obtained_pivot_sum}
 use Rattle.airy_math.specs.Obtained.{obtained_from}
@@ -16,16 +11,17 @@ use Rattle.airy_math.specs.Solutions.{factorials}
 use Rattle.airy_math.specs.BelowDim.{SameBelowDim}
 use Rattle.airy_math.proofs.SumLemmas.{Each, Each-weaken}
 use Rattle.airy_math.proofs.PlannedLaw.{head_stands}
-use Rattle.airy_math.proofs.PlanLemmas.{planned_only}
+use Rattle.airy_math.proofs.PlanLemmas.{Has, planned_only}
 use Rattle.airy_math.proofs.BelowDimLaw.{below_dim, same_back}
 use Rattle.amp_terms.specs.declared.Outcome.{Outcome}
 use Rattle.amp_terms.specs.declared.Outcome.TheVariants.{Value, Over}
 use Rattle.amp_terms.specs.Outcomes.{place_of, outcome_from, least_blocked, ranks_named, value_in, outcome_of, outcomes_after, outcomes}
 use Rattle.series_law.specs.Uniqueness.{series_of}
 use Rattle.series_law.specs.Pivots.{AllPivots}
-use Rattle.series_law.specs.Check.{Verdict, judged, other_pivots, check_pivots, check_keys, check_values, check}
+use Rattle.series_law.specs.Check.{said, check_keys, check_values, check}
+use Rattle.series_law.specs.Scans.{judged, above_least, failing_pivot, of_key, failing_key}
 use Rattle.series_law.specs.SameTables.{SameTablesLaw}
-use Rattle.series_law.proofs.FirstLaw.{others_stand}
+use Rattle.series_law.proofs.ScansLaw.{times_has}
 
 -- ---- outcomes
 
@@ -48,20 +44,25 @@ module _ (T T' : Tensors) (is : SameEntries T T') (X : ℕ) where
 
   -- ---- the check
 
-  pivots_same : (F : Key → ℚ) (key : Key) → IsPlanned T X key → (is : List ℕ) → Each (λ i. 0 < times i key.idx) is → (next : Verdict) → check_pivots T F key is next ≡ check_pivots T' F key is next
-  unfolding check_pivots
-  pivots_same F key p [] e next = refl
-  pivots_same F key p (i ∷ is) e next = ap₂ (judged key (F key) i) ((below.keys key p.sorted).obtained F i e.0) (pivots_same F key p is e.1 next)
+  pivots_same : (F : Key → ℚ) (looks : Key → ℕ → Bool) (key : Key) → IsPlanned T X key → (is : List ℕ) → ((i : ℕ) → Has i is → Has i key.idx) → failing_pivot T F looks key is ≡ failing_pivot T' F looks key is
+  unfolding failing_pivot
+  pivots_same F looks key p [] e = refl
+  pivots_same F looks key p (i ∷ is) e =
+      ap₂ (λ o next. cond (looks key i) (judged (F key) i o next) next) ((below.keys key p.sorted).obtained F i (times_has i key.idx (e i (inl refl)))) (pivots_same F looks key p is (λ j h. e j (inr h)))
 
-  keys_same : (F : Key → ℚ) (keys : List Key) → Each (IsPlanned T X) keys → check_keys T F keys ≡ check_keys T' F keys
-  unfolding check_keys
-  keys_same F [] e = refl
-  keys_same F (key ∷ keys) e = pivots_same F key e.0 (other_pivots key) (others_stand key) (check_keys T F keys) ∙ ap (check_pivots T' F key (other_pivots key)) (keys_same F keys e.1)
+  keys_same : (F : Key → ℚ) (looks : Key → ℕ → Bool) (keys : List Key) → Each (IsPlanned T X) keys → failing_key T F looks keys ≡ failing_key T' F looks keys
+  unfolding failing_key
+  keys_same F looks [] e = refl
+  keys_same F looks (key ∷ keys) e = ap₂ (of_key key) (pivots_same F looks key e.0 key.idx (λ i h. h)) (keys_same F looks keys e.1)
+
+  -- of all planned keys, where a table gives their numbers
+  pub failing_same : (looks : Key → ℕ → Bool) (table : List Outcome)
+      → failing_key T (value_in (planned T X) table) looks (planned T X) ≡ failing_key T' (value_in (planned T' X) table) looks (planned T' X)
+  failing_same looks table = keys_same (value_in (planned T X) table) looks (planned T X) (planned_only T X) ∙ ap (λ plan. failing_key T' (value_in plan table) looks plan) (below.plan X)
 
   check_same : (table : List Outcome) → check T X table ≡ check T' X table
-  unfolding check
-  check_same table =
-      ap (check_values 0 table) (keys_same (value_in (planned T X) table) (planned T X) (planned_only T X) ∙ ap (λ plan. check_keys T' (value_in plan table) plan) (below.plan X))
+  unfolding check check_keys
+  check_same table = ap₂ (λ F f. check_values 0 table (said F f)) (ap (λ plan. value_in plan table) (below.plan X)) (failing_same above_least table)
 
   -- ---- every pivot, and the series
 

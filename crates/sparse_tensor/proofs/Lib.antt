@@ -1,5 +1,5 @@
+pub mod ItemLemmas
 pub mod RowLemmas
-pub mod PairLemmas
 pub mod EntryLemmas
 pub mod JoinLemmas
 pub mod GridLemmas

@@ -1,167 +1,30 @@
 -- The rows of the tensors are the stored rows.
-use Rattle.std.proofs.Common.{◌≡◌, ℕ, zero, suc, ◌+◌, ◌<◌, ◌≤◌, inl, inr, Bool, true, false, ◌&&◌, not, cond, eqb, leb, List, [], ◌∷◌, ◌++◌, map, refl, sym, ap, ap₂, subst, ◌∙◌, arith}
-use Rattle.std.specs.Prelude.{min, max}
+use Rattle.std.proofs.Common.{◌≡◌, ℕ, zero, suc, ◌+◌, ◌<◌, ◌≤◌, inl, inr, Bool, true, false, ◌&&◌, not, cond, eqb, leb, List, [], ◌∷◌, ◌++◌, map, refl, sym, ap, ap₂, subst, ◌∙◌, arith, min, max}
 use Rattle.std.proofs.lemmas.Bool.{cases_lt}
 use Rattle.std.proofs.lemmas.Bool.Decides.{nat_tests}
 use Rattle.airy_math.specs.Rational.{ℚ}
 use Rattle.airy_math.specs.RationalLaws.{0ℚ}
 use Rattle.airy_math.specs.Sums.{count_from, below, each, keep}
 use Rattle.airy_math.specs.Tensors.{is_zero, row_b, row_c}
-use Rattle.airy_math.proofs.SumLemmas.{Each, Each-weaken, Each-from_all}
-use Rattle.sparse_tensor.specs.Entries.{Entry, Entries, same_place, value_at, value_of, looked_up, place_before}
+use Rattle.airy_math.proofs.SumLemmas.{Each, Each-weaken}
+use Rattle.airy_math.proofs.EachLemmas.{keep-append}
+use Rattle.sparse_tensor.specs.Items.{picked}
+use Rattle.sparse_tensor.specs.Entries.{Entry, Entries, same_place, value_at, looked_up, place_before}
 use Rattle.sparse_tensor.specs.Grades.{IsAscending, AreStored, AreOrdered, AreEntries, keeps_b, keeps_c}
 use Rattle.sparse_tensor.specs.Rows.{row_of, pairs_of}
-use Rattle.sparse_tensor.proofs.EntryLemmas.{ascending-tail}
+use Rattle.sparse_tensor.proofs.ItemLemmas.{fold-none, ascends-each}
 use Rattle.sparse_tensor.proofs.SoundLaw.{is_zero-0ℚ, is_zero-some}
 
--- ---- the order of places
+-- ---- lists of lists
 
-before-trans : (x y z : Entry) → place_before x y ≡ true → place_before y z ≡ true → place_before x z ≡ true
-unfolding place_before
-before-trans x y z p q = grind (arith, nat_tests)
-
--- all later places stand behind
-ascending-each : (e : Entry) (es : List Entry) → IsAscending (e ∷ es) → Each (λ y. place_before e y ≡ true) es
-unfolding IsAscending
-ascending-each e [] h = tt
-ascending-each e (f ∷ es) h = (h.0, Each-weaken (λ y. place_before f y ≡ true) (λ y. place_before e y ≡ true) es (λ y p. before-trans e f y h.0 p) (ascending-each f es h.1))
-
--- ---- the row at i and j
-
-value_of-row_of : (i j k : ℕ) (es : List Entry) → value_of (row_of i j es) k ≡ value_at es i j k
-unfolding value_of row_of value_at same_place
-value_of-row_of i j k [] = refl
-value_of-row_of i j k (e ∷ es) = by (eqb i e.i) (eqb j e.j) (value_of-row_of i j k es)
+keep-map : {A B : Type 0} (p : B → Bool) (f : A → B) (xs : List A) → keep p (map f xs) ≡ each xs (λ x. cond (p (f x)) (f x ∷ []) [])
+unfolding keep each
+keep-map p f [] = refl
+keep-map {B = B} p f (x ∷ xs) = by (p (f x)) (keep-map p f xs)
   where
-    by : (s t : Bool) → value_of (row_of i j es) k ≡ value_at es i j k → value_of (cond (s && t) ((e.k, e.v) ∷ row_of i j es) (row_of i j es)) k ≡ cond (s && t && eqb k e.k) e.v (value_at es i j k)
-    by true true p = ap (cond (eqb k e.k) e.v) p
-    by true false p = p
-    by false t p = p
-
--- ascending indices from n on, all below the end, and no value is 0
-IsFrom : ℕ → ℕ → List (ℕ × ℚ) → Type 0
-IsFrom n end [] = Unit
-IsFrom n end (e ∷ es) = (n ≤ e.0) × (e.0 < end) × (e.1 ≡ 0ℚ → ⊥) × IsFrom (suc e.0) end es
-
-value_of-before : (k n end : ℕ) (es : List (ℕ × ℚ)) → k < n → IsFrom n end es → value_of es k ≡ 0ℚ
-unfolding IsFrom value_of
-value_of-before k n end [] l h = refl
-value_of-before k n end (e ∷ es) l h =
-    let least : n ≤ e.0 = h.0 in
-    let t : eqb k e.0 ≡ false = grind (arith, nat_tests) in
-    rw t (value_of-before k (suc e.0) end es (omega arith) h.3)
-
--- the indices at i and j are n or more
-IsBehind : ℕ → ℕ → ℕ → List Entry → Type 0
-IsBehind i j n = Each (λ y. (eqb i y.i && eqb j y.j) ≡ true → n ≤ y.k)
-
-behind-place : (i j : ℕ) (e y : Entry) → (eqb i e.i && eqb j e.j) ≡ true → place_before e y ≡ true → (eqb i y.i && eqb j y.j) ≡ true → suc e.k ≤ y.k
-unfolding place_before
-behind-place i j e y p q r = grind (arith, nat_tests)
-
-from-here : (i j n dim : ℕ) (grade : ℕ → ℕ → ℕ → Bool) (e : Entry) (es : List Entry) → IsAscending (e ∷ es) → AreStored grade dim (e ∷ es) → IsBehind i j n (e ∷ es) → (IsBehind i j (suc e.k) es → IsFrom (suc e.k) dim (row_of i j es)) → IsFrom n dim (row_of i j es) → IsFrom n dim (row_of i j (e ∷ es))
-unfolding AreStored row_of IsFrom IsBehind
-from-here i j n dim grade e es up stored behind rest others = by (eqb i e.i && eqb j e.j) refl
-  where
-    by : (t : Bool) → (eqb i e.i && eqb j e.j) ≡ t → IsFrom n dim (cond t ((e.k, e.v) ∷ row_of i j es) (row_of i j es))
-    by true t = (behind.0 t, stored.0.2, stored.0.3, rest (Each-weaken (λ y. place_before e y ≡ true) (λ y. (eqb i y.i && eqb j y.j) ≡ true → suc e.k ≤ y.k) es (λ y p r. behind-place i j e y t p r) (ascending-each e es up)))
-    by false t = others
-
-from-row_of : (i j n dim : ℕ) (grade : ℕ → ℕ → ℕ → Bool) (es : List Entry) → IsAscending es → AreStored grade dim es → IsBehind i j n es → IsFrom n dim (row_of i j es)
-from-row_of i j n dim grade [] up stored behind = unfold row_of IsFrom in tt
-from-row_of i j n dim grade (e ∷ es) up stored behind =
-    let later = ascending-tail e es up in
-    let kept : AreStored grade dim es = unfold AreStored in stored.1 in
-    from-here i j n dim grade e es up stored behind
-    (λ h. from-row_of i j (suc e.k) dim grade es later kept h)
-    (from-row_of i j n dim grade es later kept (unfold IsBehind in behind.1))
-
--- ---- listing a row by all indices
-
-some_value : (ℕ × ℚ) → Bool
-some_value r = not (is_zero r.1)
-
-keep-yes : {A : Type 0} (p : A → Bool) (x : A) (xs : List A) → p x ≡ true → keep p (x ∷ xs) ≡ x ∷ keep p xs
-unfolding keep
-keep-yes {A = A} p x xs h = by (p x) h
-  where
-    by : (t : Bool) → t ≡ true → ◌≡◌ {A = List A} (elim t [ true ↦ x ∷ keep p xs | false ↦ keep p xs ]) (x ∷ keep p xs)
-    by true e = refl
-    by false e = cc
-
-keep-no : {A : Type 0} (p : A → Bool) (x : A) (xs : List A) → p x ≡ false → keep p (x ∷ xs) ≡ keep p xs
-unfolding keep
-keep-no {A = A} p x xs h = by (p x) h
-  where
-    by : (t : Bool) → t ≡ false → ◌≡◌ {A = List A} (elim t [ true ↦ x ∷ keep p xs | false ↦ keep p xs ]) (keep p xs)
-    by true e = cc
-    by false e = refl
-
--- the indices from n on, each with its value
-listed : (ℕ → ℚ) → ℕ → ℕ → List (ℕ × ℚ)
-listed f n m = keep some_value (map (λ a. (a, f a)) (count_from n m))
-
--- an ascending row is what it lists
-IsListed : (ℕ → ℚ) → ℕ → ℕ → Type 0
-IsListed f n m = (es : List (ℕ × ℚ)) → IsFrom n (n + m) es → ((a : ℕ) → n ≤ a → f a ≡ value_of es a) → listed f n m ≡ es
-
--- where the first index holds nothing
-listed-none : (f : ℕ → ℚ) (n m : ℕ) (es : List (ℕ × ℚ)) → IsListed f (suc n) m → IsFrom (suc n) (n + suc m) es → ((a : ℕ) → n ≤ a → f a ≡ value_of es a) → listed f n (suc m) ≡ es
-unfolding listed count_from some_value IsListed
-listed-none f n m es others h v =
-    let zero_here : f n ≡ 0ℚ = v n (omega arith) ∙ value_of-before n (suc n) (n + suc m) es (omega arith) h in
-    let passed : not (is_zero (f n)) ≡ false = ap (λ x. not (is_zero x)) zero_here ∙ ap not is_zero-0ℚ in
-    keep-no some_value (n, f n) (map (λ a. (a, f a)) (count_from (suc n) m)) passed
-    ∙ others es (subst (λ end. IsFrom (suc n) end es) (omega arith) h) (λ a l. v a (omega arith))
-
--- where it is that of the first entry
-listed-some : (f : ℕ → ℚ) (n m : ℕ) (e : ℕ × ℚ) (es : List (ℕ × ℚ)) → IsListed f (suc n) m → IsFrom n (n + suc m) (e ∷ es) → e.0 ≡ n → ((a : ℕ) → n ≤ a → f a ≡ value_of (e ∷ es) a) → listed f n (suc m) ≡ e ∷ es
-unfolding listed count_from some_value IsFrom value_of IsListed
-listed-some f n m e es others h same v =
-    let here : eqb n e.0 ≡ true = grind (arith, nat_tests) in
-    let first : f n ≡ e.1 = v n (omega arith) ∙ rw here refl in
-    let kept : not (is_zero (f n)) ≡ true = ap (λ x. not (is_zero x)) first ∙ ap not (is_zero-some e.1 h.2) in
-    let rest : IsFrom (suc n) (suc n + m) es = subst (λ end. IsFrom (suc n) end es) (omega arith) (subst (λ k. IsFrom (suc k) (n + suc m) es) same h.3) in
-    let later = λ (a : ℕ) (l : suc n ≤ a). v a (omega arith) ∙ (let other : eqb a e.0 ≡ false = grind (arith, nat_tests) in rw other refl) in
-    keep-yes some_value (n, f n) (map (λ a. (a, f a)) (count_from (suc n) m)) kept
-    ∙ ap₂ (λ (x : ℕ × ℚ) xs. x ∷ xs) (ap₂ (λ k x. (k, x)) (sym same) first) (others es rest later)
-
-listed-row : (f : ℕ → ℚ) (n m : ℕ) → IsListed f n m
-unfolding IsListed
-listed-row f n zero [] h v = unfold listed count_from keep in refl
-listed-row f n zero (e ∷ es) h v = unfold IsFrom in absurd (omega (arith, h.0, h.1))
-listed-row f n (suc m) [] h v = listed-none f n m [] (unfold IsListed in listed-row f (suc n) m) (unfold IsFrom in tt) v
-listed-row f n (suc m) (e ∷ es) h v =
-    let others : IsListed f (suc n) m = unfold IsListed in listed-row f (suc n) m in
-    elim (cases_lt n e.0) [
-      | inl l ↦ listed-none f n m (e ∷ es) others (unfold IsFrom in (l, h.1, h.2, h.3)) v
-      | inr l ↦ listed-some f n m e es others h (unfold IsFrom in omega (arith, h.0)) v
-    ]
-
--- the row at i and j by all indices
-row-listed : (i j dim : ℕ) (grade : ℕ → ℕ → ℕ → Bool) (es : List Entry) → IsAscending es → AreStored grade dim es → listed (λ a. value_at es i j a) 0 dim ≡ row_of i j es
-row-listed i j dim grade es up stored =
-    unfold IsListed in listed-row (λ a. value_at es i j a) 0 dim (row_of i j es)
-    (subst (λ end. IsFrom 0 end (row_of i j es)) (omega arith) (from-row_of i j 0 dim grade es up stored (none-behind es)))
-    (λ a l. sym (value_of-row_of i j a es))
-  where
-    none-behind : (l : List Entry) → IsBehind i j 0 l
-    none-behind l = unfold IsBehind in Each-from_all (λ y. (eqb i y.i && eqb j y.j) ≡ true → 0 ≤ y.k) l (λ y p. omega arith)
-
-pub row_b-is : (t : Entries) (i j : ℕ) → AreEntries t → row_of i j t.b ≡ row_b (looked_up t) i j
-unfolding row_b looked_up below listed some_value
-row_b-is t i j h = sym (row-listed i j t.dim (keeps_b t.shape) t.b h.b_ascends h.b_stored)
-
--- ---- rows by two indices
-
-keep-append : {A : Type 0} (p : A → Bool) (xs ys : List A) → keep p (xs ++ ys) ≡ keep p xs ++ keep p ys
-unfolding keep
-keep-append p [] ys = refl
-keep-append {A = A} p (x ∷ xs) ys = by (p x) (keep-append p xs ys)
-  where
-    by : (t : Bool) → keep p (xs ++ ys) ≡ keep p xs ++ keep p ys → ◌≡◌ {A = List A} (elim t [ true ↦ x ∷ keep p (xs ++ ys) | false ↦ keep p (xs ++ ys) ]) (elim t [ true ↦ x ∷ keep p xs | false ↦ keep p xs ] ++ keep p ys)
-    by true e = ap (λ l. x ∷ l) e
-    by false e = e
+    by : (t : Bool) → keep p (map f xs) ≡ each xs (λ x. cond (p (f x)) (f x ∷ []) []) → ◌≡◌ {A = List B} (elim t [ true ↦ f x ∷ keep p (map f xs) | false ↦ keep p (map f xs) ]) (cond t (f x ∷ []) [] ++ each xs (λ x. cond (p (f x)) (f x ∷ []) []))
+    by true h = ap (λ l. f x ∷ l) h
+    by false h = h
 
 keep-each : {A B : Type 0} (p : B → Bool) (f : A → List B) (xs : List A) → keep p (each xs f) ≡ each xs (λ x. keep p (f x))
 unfolding each
@@ -196,152 +59,150 @@ each-insert f g x p n (suc m) l r other here empty = elim (cases_lt n p) [
       ap₂ (λ u v. u ++ v) (subst (λ q. f q ≡ x ∷ g q) same here) (count-cong f g (suc n) m (λ b k. other b (λ e. omega arith)))
 ]
 
-three : ℕ → (ℕ × ℚ) → ℕ × ℕ × ℚ
-three a r = (a, r.0, r.1)
+-- ---- the order of places
 
-row_of-other : (i a : ℕ) (e : Entry) (es : List Entry) → (eqb i e.i && eqb a e.j) ≡ false → row_of i a (e ∷ es) ≡ row_of i a es
-unfolding row_of
-row_of-other i a e es h = rw h refl
+-- R holds of each item and every later one
+abbrev Later : {E : Type 0} → (E → E → Type 0) → List E → Type 0
+Later R [] = Unit
+Later R (e ∷ es) = Each (R e) es × Later R es
 
-row_of-same : (i a : ℕ) (e : Entry) (es : List Entry) → (eqb i e.i && eqb a e.j) ≡ true → row_of i a (e ∷ es) ≡ (e.k, e.v) ∷ row_of i a es
-unfolding row_of
-row_of-same i a e es h = rw h refl
-
-row_of-none : (i a : ℕ) (es : List Entry) → Each (λ y. (eqb i y.i && eqb a y.j) ≡ false) es → row_of i a es ≡ []
-row_of-none i a [] h = unfold row_of in refl
-row_of-none i a (e ∷ es) h = row_of-other i a e es h.0 ∙ row_of-none i a es h.1
-
-behind-row : (i a : ℕ) (e y : Entry) → i ≡ e.i → a < e.j → place_before e y ≡ true → (eqb i y.i && eqb a y.j) ≡ false
+before-trans : (x y z : Entry) → place_before x y ≡ true → place_before y z ≡ true → place_before x z ≡ true
 unfolding place_before
-behind-row i a e y h l p = grind (arith, nat_tests)
+before-trans x y z p q = grind (arith, nat_tests)
 
-rows_at : ℕ → List Entry → ℕ → List (ℕ × ℕ × ℚ)
-rows_at i es a = map (three a) (row_of i a es)
+later : (R : Entry → Entry → Type 0) (es : List Entry) → IsAscending es → ((x y : Entry) → place_before x y ≡ true → R x y) → Later R es
+unfolding IsAscending
+later R [] up h = tt
+later R (e ∷ es) up h = (Each-weaken (λ y. place_before e y ≡ true) (R e) es (h e) (ascends-each place_before before-trans e es up), later R es up.1 h)
 
-pairs-other : (i dim : ℕ) (e : Entry) (es : List Entry) → eqb i e.i ≡ false → pairs_of i es ≡ each (below dim) (rows_at i es) → pairs_of i (e ∷ es) ≡ each (below dim) (rows_at i (e ∷ es))
-unfolding pairs_of rows_at
-pairs-other i dim e es h p =
-    (let skip : pairs_of i (e ∷ es) ≡ pairs_of i es = rw h refl in skip) ∙ p
-    ∙ each-cong (λ a. map (three a) (row_of i a es)) (λ a. map (three a) (row_of i a (e ∷ es))) (below dim) (λ a. ap (map (three a)) (sym (row_of-other i a e es (rw h refl))))
+later_j : (i : ℕ) (x y : Entry) → place_before x y ≡ true → eqb i x.i ≡ true → eqb i y.i ≡ true → x.j ≤ y.j
+unfolding place_before
+later_j i x y b p q = grind (arith, nat_tests)
 
-pairs-same : (i dim : ℕ) (e : Entry) (es : List Entry) → e.j < dim → IsAscending (e ∷ es) → eqb i e.i ≡ true → pairs_of i es ≡ each (below dim) (rows_at i es) → pairs_of i (e ∷ es) ≡ each (below dim) (rows_at i (e ∷ es))
-unfolding pairs_of rows_at below three
-pairs-same i dim e es l up h p =
-    let same : i ≡ e.i = grind (arith, nat_tests) in
-    let behind = ascending-each e es up in
-    (let first : pairs_of i (e ∷ es) ≡ (e.j, e.k, e.v) ∷ pairs_of i es = rw h refl in first)
-    ∙ ap (λ t. (e.j, e.k, e.v) ∷ t) p
-    ∙ sym (each-insert (λ a. map (λ r. (a, r.0, r.1)) (row_of i a (e ∷ es))) (λ a. map (λ r. (a, r.0, r.1)) (row_of i a es)) (e.j, e.k, e.v) e.j 0 dim (omega arith) (omega arith)
-    (λ a other. ap (map (λ r. (a, r.0, r.1))) (row_of-other i a e es (let apart : eqb a e.j ≡ false = grind (arith, nat_tests) in rw (h, apart) refl)))
-    (ap (map (λ r. (e.j, r.0, r.1))) (row_of-same i e.j e es (let here : eqb e.j e.j ≡ true = grind (arith, nat_tests) in rw (h, here) refl)))
-    (λ a less. ap (map (λ r. (a, r.0, r.1))) (row_of-none i a es (Each-weaken (λ y. place_before e y ≡ true) (λ y. (eqb i y.i && eqb a y.j) ≡ false) es (λ y q. behind-row i a e y same less q) behind))))
+later_k : (i j : ℕ) (x y : Entry) → place_before x y ≡ true → (eqb i x.i && eqb j x.j) ≡ true → (eqb i y.i && eqb j y.j) ≡ true → x.k ≤ y.k
+unfolding place_before
+later_k i j x y b p q = grind (arith, nat_tests)
 
--- the entries at i are those at i and 0, at i and 1, and so on
-pairs-by_rows : (i dim : ℕ) (grade : ℕ → ℕ → ℕ → Bool) (es : List Entry) → IsAscending es → AreStored grade dim es → pairs_of i es ≡ each (below dim) (rows_at i es)
-pairs-by_rows i dim grade [] up stored = unfold pairs_of in sym (each-none (rows_at i []) (below dim) (λ a. unfold rows_at row_of in refl))
-pairs-by_rows i dim grade (e ∷ es) up stored = by (eqb i e.i) refl (pairs-by_rows i dim grade es (ascending-tail e es up) (unfold AreStored in stored.1))
+later_place : (i j k : ℕ) (x y : Entry) → place_before x y ≡ true → same_place i j k x ≡ true → same_place i j k y ≡ false
+unfolding place_before same_place
+later_place i j k x y b p = grind (arith, nat_tests)
+
+-- ---- items by a key that does not fall
+
+not_yet : (s t : Bool) (a m n : ℕ) → s ≡ true → (s ≡ true → t ≡ true → m ≤ n) → a < m → (t && eqb a n) ≡ false
+not_yet s true a m n e h l = let k : m ≤ n = h e refl in grind (arith, nat_tests)
+not_yet s false a m n e h l = refl
+
+-- the picked items are those with the key 0, those with the key 1, and so on
+by_key : {E F : Type 0} (p : E → Bool) (key : E → ℕ) (q : ℕ → E → Bool) (f : E → F) (n : ℕ) → ((a : ℕ) (e : E) → q a e ≡ (p e && eqb a (key e))) → (es : List E) → Each (λ e. key e < n) es → Later (λ x y. p x ≡ true → p y ≡ true → key x ≤ key y) es → picked p f es ≡ each (below n) (λ a. picked (q a) f es)
+by_key p key q f n s [] l h = sym (each-none _ (below n) (λ a. refl))
+by_key {F = F} p key q f n s (e ∷ es) l h = by (p e) refl (by_key p key q f n s es l.1 h.1)
   where
-    by : (t : Bool) → eqb i e.i ≡ t → pairs_of i es ≡ each (below dim) (rows_at i es) → pairs_of i (e ∷ es) ≡ each (below dim) (rows_at i (e ∷ es))
-    by true t rest = pairs-same i dim e es (unfold AreStored in stored.0.1) up t rest
-    by false t rest = pairs-other i dim e es t rest
+    others : (a : ℕ) (t : Bool) → q a e ≡ t → t ≡ false → picked (q a) f es ≡ picked (q a) f (e ∷ es)
+    others a t o z = rw (o ∙ z) refl
+
+    here : p e ≡ true → picked (q (key e)) f (e ∷ es) ≡ f e ∷ picked (q (key e)) f es
+    here t = let o : q (key e) e ≡ true = s (key e) e ∙ rw t (grind (arith, nat_tests)) in rw o refl
+
+    by : (t : Bool) → p e ≡ t → picked p f es ≡ each (below n) (λ a. picked (q a) f es) → cond t (f e ∷ picked p f es) (picked p f es) ≡ each (below n) (λ a. picked (q a) f (e ∷ es))
+    by false t ih = ih ∙ each-cong _ _ (below n) (λ a. others a (p e && eqb a (key e)) (s a e) (rw t refl))
+    by true t ih =
+        let small : key e < n = l.0 in
+        ap (λ r. f e ∷ r) ih
+        ∙ sym (unfold below in each-insert (λ a. picked (q a) f (e ∷ es)) (λ a. picked (q a) f es) (f e) (key e) 0 n (omega arith) (omega arith)
+        (λ a o. sym (others a (p e && eqb a (key e)) (s a e) (rw t (grind (arith, nat_tests)))))
+        (here t)
+        (λ a less. fold-none (q a) (λ y r. f y ∷ r) [] es (Each-weaken (λ y. p e ≡ true → p y ≡ true → key e ≤ key y) (λ y. q a y ≡ false) es (λ y k. s a y ∙ not_yet (p e) (p y) a (key e) (key y) t k less) h.0)))
+
+-- ---- the entry at one place
+
+at_place : (i j k : ℕ) (e : Entry) → same_place i j k e ≡ true → record { i = i; j = j; k = k; v = e.v } ≡ e
+unfolding same_place
+at_place i j k e h =
+    let same_i : i ≡ e.i = grind (arith, nat_tests) in
+    let same_j : j ≡ e.j = grind (arith, nat_tests) in
+    let same_k : k ≡ e.k = grind (arith, nat_tests) in
+    rw (same_i, same_j, same_k) refl
+
+one_place : {F : Type 0} (f : Entry → F) (grade : ℕ → ℕ → ℕ → Bool) (dim i j k : ℕ) (es : List Entry) → AreStored grade dim es → Later (λ x y. same_place i j k x ≡ true → same_place i j k y ≡ false) es → picked (same_place i j k) f es ≡ cond (not (is_zero (value_at es i j k))) (f (record { i = i; j = j; k = k; v = value_at es i j k }) ∷ []) []
+unfolding AreStored value_at
+one_place f grade dim i j k [] stored h = rw is_zero-0ℚ refl
+one_place f grade dim i j k (e ∷ es) stored h = by (same_place i j k e) refl (one_place f grade dim i j k es stored.1 h.1)
+  where
+    by : (t : Bool) → same_place i j k e ≡ t → picked (same_place i j k) f es ≡ cond (not (is_zero (value_at es i j k))) (f (record { i = i; j = j; k = k; v = value_at es i j k }) ∷ []) []
+        → cond t (f e ∷ picked (same_place i j k) f es) (picked (same_place i j k) f es) ≡ cond (not (is_zero (cond t e.v (value_at es i j k)))) (f (record { i = i; j = j; k = k; v = cond t e.v (value_at es i j k) }) ∷ []) []
+    by false t ih = ih
+    by true t ih =
+        rw (is_zero-some e.v stored.0.3, at_place i j k e t)
+        (ap (λ r. f e ∷ r) (fold-none (same_place i j k) (λ y r. f y ∷ r) [] es (Each-weaken (λ y. same_place i j k e ≡ true → same_place i j k y ≡ false) (λ y. same_place i j k y ≡ false) es (λ y k. k t) h.0)))
+
+-- ---- the rows
+
+and_assoc : (s t u : Bool) → (s && t && u) ≡ ((s && t) && u)
+and_assoc true t u = refl
+and_assoc false t u = refl
+
+by_k : {F : Type 0} (f : Entry → F) (grade : ℕ → ℕ → ℕ → Bool) (dim i j : ℕ) (es : List Entry) → IsAscending es → AreStored grade dim es → picked (λ e. eqb i e.i && eqb j e.j) f es ≡ each (below dim) (λ k. cond (not (is_zero (value_at es i j k))) (f (record { i = i; j = j; k = k; v = value_at es i j k }) ∷ []) [])
+unfolding AreStored
+by_k f grade dim i j es up stored =
+    by_key (λ e. eqb i e.i && eqb j e.j) (λ e. e.k) (λ k. same_place i j k) f dim (λ k e. unfold same_place in and_assoc (eqb i e.i) (eqb j e.j) (eqb k e.k)) es
+    (Each-weaken _ (λ e. e.k < dim) es (λ e s. s.2) stored) (later _ es up (later_k i j))
+    ∙ each-cong _ _ (below dim) (λ k. one_place f grade dim i j k es stored (later _ es up (later_place i j k)))
+
+pub row_b-is : (t : Entries) (i j : ℕ) → AreEntries t → row_of i j t.b ≡ row_b (looked_up t) i j
+unfolding row_of row_b looked_up
+row_b-is t i j h = by_k (λ e. (e.k, e.v)) (keeps_b t.shape) t.dim i j t.b h.b.ascend h.b.stored ∙ sym (keep-map (λ r. not (is_zero r.1)) (λ a. (a, value_at t.b i j a)) (below t.dim))
 
 ordered-zero : (i j k : ℕ) (es : List Entry) → AreOrdered es → k < j → value_at es i j k ≡ 0ℚ
 unfolding AreOrdered value_at
-ordered-zero i j k [] h l = refl
-ordered-zero i j k (e ∷ es) h l =
-    let other : same_place i j k e ≡ false = apart i j k e h.0 l in
-    rw other (ordered-zero i j k es h.1 l)
-  where
-    apart : (i j k : ℕ) (e : Entry) → e.j ≤ e.k → k < j → same_place i j k e ≡ false
-    apart i j k e p q = unfold same_place in grind (arith, nat_tests)
+ordered-zero i j k es h l = fold-none (same_place i j k) (λ e r. e.v) 0ℚ es (Each-weaken (λ e. e.j ≤ e.k) _ es (λ e o. unfold same_place in grind (arith, nat_tests)) h)
 
-stands_in_row : (ℕ × ℕ × ℚ) → Bool
-stands_in_row r = leb r.0 r.1 && not (is_zero r.2)
+-- of each pair of last indices the one in order is listed
+abbrev alone : ℕ → ℕ → ℚ → Bool → List (ℕ × ℕ × ℚ)
+alone a b v t = cond t ((a, b, v) ∷ []) []
 
-at_pair : ℕ → List Entry → ℕ → ℕ → ℚ
-at_pair i es a b = value_at es i (min a b) (max a b)
-
--- one line of all pairs, of which those with a at most b are kept
-line : ℕ → List Entry → ℕ → ℕ → ℕ → List (ℕ × ℕ × ℚ)
-line i es a n m = map (λ b. (a, b, at_pair i es a b)) (count_from n m)
-
-line-below : (i a n m : ℕ) (es : List Entry) → AreOrdered es → n < a → keep stands_in_row (line i es a (suc n) m) ≡ map (three a) (listed (λ b. value_at es i a b) (suc n) m) → keep stands_in_row (line i es a n (suc m)) ≡ map (three a) (listed (λ b. value_at es i a b) n (suc m))
-unfolding line listed count_from stands_in_row some_value
-line-below i a n m es h l rest =
-    let test : leb a n ≡ false = grind (arith, nat_tests) in
-    let left : (leb a n && not (is_zero (at_pair i es a n))) ≡ false = rw test refl in
-    let right : not (is_zero (value_at es i a n)) ≡ false = ap (λ x. not (is_zero x)) (ordered-zero i a n es h l) ∙ ap not is_zero-0ℚ in
-    keep-no stands_in_row (a, n, at_pair i es a n) (map (λ b. (a, b, at_pair i es a b)) (count_from (suc n) m)) left
-    ∙ rest
-    ∙ sym (ap (map (three a)) (keep-no some_value (n, value_at es i a n) (map (λ b. (b, value_at es i a b)) (count_from (suc n) m)) right))
-
-line-above : (i a n m : ℕ) (es : List Entry) → a ≤ n → keep stands_in_row (line i es a (suc n) m) ≡ map (three a) (listed (λ b. value_at es i a b) (suc n) m) → keep stands_in_row (line i es a n (suc m)) ≡ map (three a) (listed (λ b. value_at es i a b) n (suc m))
-unfolding line listed count_from stands_in_row some_value at_pair three
-line-above i a n m es l rest = by (is_zero (value_at es i a n)) refl
-  where
-    test : leb a n ≡ true
-    test = grind (arith, nat_tests)
-
-    same : at_pair i es a n ≡ value_at es i a n
-    same = ap₂ (value_at es i) (omega arith) (omega arith)
-
-    left : (t : Bool) → is_zero (value_at es i a n) ≡ t → (leb a n && not (is_zero (at_pair i es a n))) ≡ not t
-    left t e = ap₂ (λ u v. u && not v) test (ap is_zero same ∙ e)
-
-    by : (t : Bool) → is_zero (value_at es i a n) ≡ t → keep stands_in_row ((a, n, at_pair i es a n) ∷ line i es a (suc n) m) ≡ map (three a) (keep some_value ((n, value_at es i a n) ∷ map (λ b. (b, value_at es i a b)) (count_from (suc n) m)))
-    by true t =
-        keep-no stands_in_row (a, n, at_pair i es a n) (line i es a (suc n) m) (left true t)
-        ∙ rest
-        ∙ sym (ap (map (three a)) (keep-no some_value (n, value_at es i a n) (map (λ b. (b, value_at es i a b)) (count_from (suc n) m)) (ap not t)))
-    by false t =
-        keep-yes stands_in_row (a, n, at_pair i es a n) (line i es a (suc n) m) (left false t)
-        ∙ ap₂ (λ x (xs : List (ℕ × ℕ × ℚ)). (a, n, x) ∷ xs) same rest
-        ∙ sym (ap (map (three a)) (keep-yes some_value (n, value_at es i a n) (map (λ b. (b, value_at es i a b)) (count_from (suc n) m)) (ap not t)))
-
-line-kept : (i a : ℕ) (es : List Entry) → AreOrdered es → (n m : ℕ) → keep stands_in_row (line i es a n m) ≡ map (three a) (listed (λ b. value_at es i a b) n m)
-line-kept i a es h n zero = unfold line count_from listed keep in refl
-line-kept i a es h n (suc m) = elim (cases_lt n a) [
-  | inl l ↦ line-below i a n m es h l (line-kept i a es h (suc n) m)
-  | inr l ↦ line-above i a n m es l (line-kept i a es h (suc n) m)
+in_order : (i a b : ℕ) (es : List Entry) → AreOrdered es → alone a b (value_at es i a b) (not (is_zero (value_at es i a b))) ≡ alone a b (value_at es i (min a b) (max a b)) (leb a b && not (is_zero (value_at es i (min a b) (max a b))))
+in_order i a b es o = elim (cases_lt b a) [
+  | inl l ↦
+      let nothing : is_zero (value_at es i a b) ≡ true = ap is_zero (ordered-zero i a b es o l) ∙ is_zero-0ℚ in
+      let test : leb a b ≡ false = grind (arith, nat_tests) in
+      rw (nothing, test) refl
+  | inr l ↦
+      let least : min a b ≡ a = omega arith in
+      let most : max a b ≡ b = omega arith in
+      let test : leb a b ≡ true = grind (arith, nat_tests) in
+      rw (least, most, test) refl
 ]
 
-pairs-listed : (i dim : ℕ) (grade : ℕ → ℕ → ℕ → Bool) (es : List Entry) → IsAscending es → AreOrdered es → AreStored grade dim es → keep stands_in_row (each (below dim) (λ a. line i es a 0 dim)) ≡ pairs_of i es
-pairs-listed i dim grade es up ordered stored =
-    keep-each stands_in_row (λ a. line i es a 0 dim) (below dim)
-    ∙ each-cong (λ a. keep stands_in_row (line i es a 0 dim)) (rows_at i es) (below dim) (λ a. unfold rows_at in line-kept i a es ordered 0 dim ∙ ap (map (three a)) (row-listed i a dim grade es up stored))
-    ∙ sym (pairs-by_rows i dim grade es up stored)
-
 pub row_c-is : (t : Entries) (i : ℕ) → AreEntries t → pairs_of i t.c ≡ row_c (looked_up t) i
-unfolding row_c looked_up below line stands_in_row at_pair
-row_c-is t i h = sym (pairs-listed i t.dim (keeps_c t.shape) t.c h.c_ascends h.c_ordered h.c_stored)
+unfolding pairs_of row_c looked_up AreStored
+row_c-is t i h =
+    let f : Entry → ℕ × ℕ × ℚ = λ e. (e.j, e.k, e.v) in
+    let line : ℕ → List (ℕ × ℕ × ℚ) = λ a. map (λ b. (a, b, value_at t.c i (min a b) (max a b))) (below t.dim) in
+    by_key (λ e. eqb i e.i) (λ e. e.j) (λ a e. eqb i e.i && eqb a e.j) f t.dim (λ a e. refl) t.c (Each-weaken _ (λ e. e.j < t.dim) t.c (λ e s. s.1) h.c.stored) (later _ t.c h.c.ascend (later_j i))
+    ∙ each-cong _ _ (below t.dim) (λ a. by_k f (keeps_c t.shape) t.dim i a t.c h.c.ascend h.c.stored
+    ∙ each-cong _ _ (below t.dim) (λ b. in_order i a b t.c h.c_ordered)
+    ∙ sym (keep-map (λ r. leb r.0 r.1 && not (is_zero r.2)) (λ b. (a, b, value_at t.c i (min a b) (max a b))) (below t.dim)))
+    ∙ sym (keep-each (λ r. leb r.0 r.1 && not (is_zero r.2)) line (below t.dim))
 
 -- ---- indices that are not below dim
 
-row_of-outside : (i j dim : ℕ) (grade : ℕ → ℕ → ℕ → Bool) (es : List Entry) → AreStored grade dim es → (i < dim → j < dim → ⊥) → row_of i j es ≡ []
-row_of-outside i j dim grade [] stored out = unfold row_of in refl
-row_of-outside i j dim grade (e ∷ es) stored out =
-    row_of-other i j e es (by (eqb i e.i && eqb j e.j) refl) ∙ row_of-outside i j dim grade es (unfold AreStored in stored.1) out
+rows-apart : (i j a b dim : ℕ) → a < dim → b < dim → (i < dim → j < dim → ⊥) → (eqb i a && eqb j b) ≡ false
+rows-apart i j a b dim p q out = by (eqb i a && eqb j b) refl
   where
-    by : (t : Bool) → (eqb i e.i && eqb j e.j) ≡ t → t ≡ false
+    by : (t : Bool) → (eqb i a && eqb j b) ≡ t → t ≡ false
     by true t =
-        let below_i : e.i < dim = unfold AreStored in stored.0.0 in
-        let below_j : e.j < dim = unfold AreStored in stored.0.1 in
-        let same_i : i ≡ e.i = grind (arith, nat_tests) in
-        let same_j : j ≡ e.j = grind (arith, nat_tests) in
+        let same_i : i ≡ a = grind (arith, nat_tests) in
+        let same_j : j ≡ b = grind (arith, nat_tests) in
         absurd (out (omega arith) (omega arith))
     by false t = refl
 
-pairs_of-outside : (i dim : ℕ) (grade : ℕ → ℕ → ℕ → Bool) (es : List Entry) → AreStored grade dim es → (i < dim → ⊥) → pairs_of i es ≡ []
-unfolding pairs_of
-pairs_of-outside i dim grade [] stored out = refl
-pairs_of-outside i dim grade (e ∷ es) stored out =
-    let below_i : e.i < dim = unfold AreStored in stored.0.0 in
-    let apart : i ≡ e.i → ⊥ = λ s. out (omega arith) in
-    let other : eqb i e.i ≡ false = grind (arith, nat_tests) in
-    rw other (pairs_of-outside i dim grade es (unfold AreStored in stored.1) out)
-
 pub row_b-outside : (t : Entries) (i j : ℕ) → AreEntries t → (i < t.dim → j < t.dim → ⊥) → row_b (looked_up t) i j ≡ []
-row_b-outside t i j h out = sym (row_b-is t i j h) ∙ row_of-outside i j t.dim (keeps_b t.shape) t.b h.b_stored out
+unfolding row_of AreStored
+row_b-outside t i j h out =
+    sym (row_b-is t i j h) ∙ fold-none _ (λ e r. (e.k, e.v) ∷ r) [] t.b (Each-weaken _ (λ e. (eqb i e.i && eqb j e.j) ≡ false) t.b (λ e s. rows-apart i j e.i e.j t.dim s.0 s.1 out) h.b.stored)
 
 pub row_c-outside : (t : Entries) (i : ℕ) → AreEntries t → (i < t.dim → ⊥) → row_c (looked_up t) i ≡ []
-row_c-outside t i h out = sym (row_c-is t i h) ∙ pairs_of-outside i t.dim (keeps_c t.shape) t.c h.c_stored out
+unfolding pairs_of AreStored
+row_c-outside t i h out =
+    sym (row_c-is t i h) ∙ fold-none _ (λ e r. (e.j, e.k, e.v) ∷ r) [] t.c (Each-weaken _ (λ e. eqb i e.i ≡ false) t.c (λ e s. let apart : i ≡ e.i → ⊥ = λ same. out (omega (arith, s.0)) in grind (arith, nat_tests)) h.c.stored)

@@ -1,16 +1,16 @@
 -- Tensors as four finite lists of entries, and what stands at each place.
 use Prim.Native.Nat.{ℕ, zero, suc, min, max}
 use mathlib.Core.Path.{◌≡◌, refl}
-use mathlib.Core.Bool.{Bool, true, false, ◌&&◌, cond}
-use mathlib.Core.List.{List, [], ◌∷◌}
+use mathlib.Core.Bool.{Bool, true, ◌&&◌, cond}
+use mathlib.Core.List.{List, []}
 use lib.Dec.{ltb, eqb}
 use lib.IntN.{ℤ, pos}
 use Rattle.std.specs.Coded.{Coded, code_by, coded×, coded_ℕ, coded_ℤ, coded_bool, coded_list}
 use Rattle.airy_math.specs.Rational.{ℚ, rational_code}
-use Rattle.airy_math.specs.RationalLaws.{0ℚ}
 use Rattle.airy_math.specs.declared.Shape.{Shape}
 use Rattle.airy_math.specs.declared.Shape.TheVariants.{All, Exact, AtMost}
 use Rattle.airy_math.specs.Tensors as math
+use Rattle.sparse_tensor.specs.Items.{first_value, is_any, put_in_front}
 
 -- An entry: the value v at the indices i, j and k.
 pub record Entry : Type 0 where
@@ -34,22 +34,19 @@ same_place i j k e = eqb i e.i && eqb j e.j && eqb k e.k
 
 -- the value at a place of a list of entries, 0 where none stands there
 unfoldable pub value_at : List Entry → ℕ → ℕ → ℕ → ℚ
-value_at [] i j k = 0ℚ
-value_at (e ∷ es) i j k = cond (same_place i j k e) e.v (value_at es i j k)
+value_at es i j k = first_value (same_place i j k) (λ (e : Entry). e.v) es
 
 -- whether an entry stands at the place
 unfoldable pub is_taken : List Entry → ℕ → ℕ → ℕ → Bool
-is_taken [] i j k = false
-is_taken (e ∷ es) i j k = cond (same_place i j k e) true (is_taken es i j k)
+is_taken es i j k = is_any (same_place i j k) es
 
 -- the value at an index of the entries of D, 0 where none stands there
 unfoldable pub value_of : List (ℕ × ℚ) → ℕ → ℚ
-value_of [] i = 0ℚ
-value_of (e ∷ es) i = cond (eqb i e.0) e.1 (value_of es i)
+value_of es i = first_value (λ (e : ℕ × ℚ). eqb i e.0) (λ (e : ℕ × ℚ). e.1) es
 
+-- whether it has one
 unfoldable pub is_given : List (ℕ × ℚ) → ℕ → Bool
-is_given [] i = false
-is_given (e ∷ es) i = cond (eqb i e.0) true (is_given es i)
+is_given es i = is_any (λ (e : ℕ × ℚ). eqb i e.0) es
 
 -- The tensors that the entries stand for: the listed values, and 0 elsewhere.
 unfoldable pub looked_up : Entries → math.Tensors
@@ -73,12 +70,10 @@ place_before x y = cond (ltb x.i y.i) true (eqb x.i y.i && cond (ltb x.j y.j) tr
 
 -- the list with one more entry, in the order of places
 unfoldable pub with_entry : Entry → List Entry → List Entry
-with_entry x [] = x ∷ []
-with_entry x (e ∷ es) = cond (place_before x e) (x ∷ e ∷ es) (e ∷ with_entry x es)
+with_entry x es = put_in_front (place_before x) x es
 
 unfoldable pub with_value : ℕ → ℚ → List (ℕ × ℚ) → List (ℕ × ℚ)
-with_value i v [] = (i, v) ∷ []
-with_value i v (e ∷ es) = cond (ltb i e.0) ((i, v) ∷ e ∷ es) (e ∷ with_value i v es)
+with_value i v es = put_in_front (λ (e : ℕ × ℚ). ltb i e.0) (i, v) es
 
 -- ---- how entries are stored as data, for the models of types
 
@@ -101,11 +96,15 @@ abbrev pub shape_code : Coded Shape
 shape_code = code_by (ℕ × (ℤ × ℤ)) (coded× coded_ℕ (coded× coded_ℤ coded_ℤ)) shape_tuple tuple_shape shape_back
 
 abbrev pub entry_code : Coded Entry
-entry_code = code_by ((ℕ × ℕ) × (ℕ × ℚ)) (coded× (coded× coded_ℕ coded_ℕ) (coded× coded_ℕ rational_code)) (λ e. ((e.i, e.j), (e.k, e.v))) (λ p. record { i = p.0.0; j = p.0.1; k = p.1.0; v = p.1.1 }) (λ _. refl)
+entry_code = code_by ((ℕ × ℕ) × (ℕ × ℚ)) (coded× (coded× coded_ℕ coded_ℕ) (coded× coded_ℕ rational_code))
+    (λ e. ((e.i, e.j), (e.k, e.v)))
+    (λ p. record { i = p.0.0; j = p.0.1; k = p.1.0; v = p.1.1 })
+    (λ _. refl)
 
 abbrev pub entries_code : Coded Entries
 entries_code = code_by ((ℕ × (Shape × Bool)) × ((List Entry × List Entry) × (List Entry × List (ℕ × ℚ))))
-    (coded× (coded× coded_ℕ (coded× shape_code coded_bool)) (coded× (coded× (coded_list entry_code) (coded_list entry_code)) (coded× (coded_list entry_code) (coded_list (coded× coded_ℕ rational_code)))))
+    (coded× (coded× coded_ℕ (coded× shape_code coded_bool))
+    (coded× (coded× (coded_list entry_code) (coded_list entry_code)) (coded× (coded_list entry_code) (coded_list (coded× coded_ℕ rational_code)))))
     (λ t. ((t.dim, (t.shape, t.letter)), ((t.a, t.b), (t.c, t.d))))
     (λ p. record { dim = p.0.0; shape = p.0.1.0; letter = p.0.1.1; a = p.1.0.0; b = p.1.0.1; c = p.1.1.0; d = p.1.1.1 })
     (λ _. refl)

@@ -2,7 +2,8 @@
 use Prim.Native.Nat.{ℕ, ◌+◌, ◌<◌, ◌≤◌}
 use mathlib.Core.Path.{◌≡◌}
 use mathlib.Core.Bool.{Bool, true}
-use mathlib.Core.List.{List, [], ◌∷◌}
+use mathlib.Core.List.{List}
+use lib.Dec.{ltb}
 use lib.IntN.{ℤ, pos, negsuc, ◌*ℤ◌, ◌-ℤ◌}
 use lib.Signed.{le_z, ◌≤ℤ◌}
 use Rattle.airy_math.specs.Rational.{ℚ}
@@ -12,6 +13,8 @@ use Rattle.airy_math.specs.Shapes.{eq_z, per_g, per_n}
 use Rattle.airy_math.specs.declared.Shape.TheVariants.{All, Exact, AtMost}
 use Rattle.airy_math.specs.Obtained.{IsInRange}
 use Rattle.airy_math.specs.Tensors.{IsSymmetric, IsGraded}
+use Rattle.airy_math.proofs.SumLemmas.{Each}
+use Rattle.sparse_tensor.specs.Items.{Ascends}
 use Rattle.sparse_tensor.specs.Entries.{Entries, Entry, looked_up, place_before}
 
 -- x stands to y as the shape says
@@ -46,59 +49,54 @@ IsAtMost (AtMost l) = Unit
 
 -- each entry's place is behind the one before it
 unfoldable pub IsAscending : List Entry → Type 0
-IsAscending [] = Unit
-IsAscending (x ∷ []) = Unit
-IsAscending (x ∷ y ∷ es) = (place_before x y ≡ true) × IsAscending (y ∷ es)
+IsAscending = Ascends place_before
 
 unfoldable pub IsAscendingByIndex : List (ℕ × ℚ) → Type 0
-IsAscendingByIndex [] = Unit
-IsAscendingByIndex (x ∷ []) = Unit
-IsAscendingByIndex (x ∷ y ∷ es) = (x.0 < y.0) × IsAscendingByIndex (y ∷ es)
+IsAscendingByIndex = Ascends (λ (x y : ℕ × ℚ). ltb x.0 y.0)
 
 -- indices below dim, a value that isn't 0, and the grading kept
 unfoldable pub AreStored : (ℕ → ℕ → ℕ → Bool) → ℕ → List Entry → Type 0
-AreStored grade dim [] = Unit
-AreStored grade dim (e ∷ es) = ((e.i < dim) × (e.j < dim) × (e.k < dim) × (e.v ≡ 0ℚ → ⊥) × (grade e.i e.j e.k ≡ true)) × AreStored grade dim es
+AreStored grade dim = Each (λ (e : Entry). (e.i < dim) × (e.j < dim) × (e.k < dim) × (e.v ≡ 0ℚ → ⊥) × (grade e.i e.j e.k ≡ true))
 
 unfoldable pub AreStoredByIndex : (ℕ → Bool) → ℕ → List (ℕ × ℚ) → Type 0
-AreStoredByIndex grade dim [] = Unit
-AreStoredByIndex grade dim (e ∷ es) = ((e.0 < dim) × (e.1 ≡ 0ℚ → ⊥) × (grade e.0 ≡ true)) × AreStoredByIndex grade dim es
+AreStoredByIndex grade dim = Each (λ (e : ℕ × ℚ). (e.0 < dim) × (e.1 ≡ 0ℚ → ⊥) × (grade e.0 ≡ true))
 
 -- both numbers of each value are in range
 unfoldable pub AreInRange : List Entry → Type 0
-AreInRange [] = Unit
-AreInRange (e ∷ es) = IsInRange e.v × AreInRange es
+AreInRange = Each (λ (e : Entry). IsInRange e.v)
 
 unfoldable pub AreInRangeByIndex : List (ℕ × ℚ) → Type 0
-AreInRangeByIndex [] = Unit
-AreInRangeByIndex (e ∷ es) = IsInRange e.1 × AreInRangeByIndex es
+AreInRangeByIndex = Each (λ (e : ℕ × ℚ). IsInRange e.1)
 
 -- of A and C one place stands for two
 unfoldable pub AreOrdered : List Entry → Type 0
-AreOrdered [] = Unit
-AreOrdered (e ∷ es) = (e.j ≤ e.k) × AreOrdered es
+AreOrdered = Each (λ (e : Entry). e.j ≤ e.k)
 
--- What all tensors keep: 1 to 72 indices, a small law, a letter only where there is room for it, and each list in order,
--- without zeros, below dim, graded and in range.
+-- What the entries of a part keep: they are in order, without zeros, below dim, graded and in range.
+pub record ArePlaced (grade : ℕ → ℕ → ℕ → Bool) (dim : ℕ) (es : List Entry) : Type 0 where
+  pub ascend : IsAscending es
+  pub stored : AreStored grade dim es
+  pub in_range : AreInRange es
+
+-- The same of entries by one index.
+pub record AreIndexed (grade : ℕ → Bool) (dim : ℕ) (es : List (ℕ × ℚ)) : Type 0 where
+  pub ascend : IsAscendingByIndex es
+  pub stored : AreStoredByIndex grade dim es
+  pub in_range : AreInRangeByIndex es
+
+-- What all tensors keep: 1 to 72 indices, a small law, a letter only where there is room for it, and what each list of
+-- entries keeps.
 pub record AreEntries (t : Entries) : Type 0 where
   pub some : 0 < t.dim
   pub most : t.dim ≤ 72
   pub law : IsSmallLaw t.shape
   pub letter : t.letter ≡ true → IsAtMost t.shape
-  pub a_ascends : IsAscending t.a
-  pub b_ascends : IsAscending t.b
-  pub c_ascends : IsAscending t.c
-  pub d_ascends : IsAscendingByIndex t.d
+  pub a : ArePlaced (keeps_a t.shape) t.dim t.a
+  pub b : ArePlaced (keeps_b t.shape) t.dim t.b
+  pub c : ArePlaced (keeps_c t.shape) t.dim t.c
+  pub d : AreIndexed (keeps_d t.shape) t.dim t.d
   pub a_ordered : AreOrdered t.a
   pub c_ordered : AreOrdered t.c
-  pub a_stored : AreStored (keeps_a t.shape) t.dim t.a
-  pub b_stored : AreStored (keeps_b t.shape) t.dim t.b
-  pub c_stored : AreStored (keeps_c t.shape) t.dim t.c
-  pub d_stored : AreStoredByIndex (keeps_d t.shape) t.dim t.d
-  pub a_in_range : AreInRange t.a
-  pub b_in_range : AreInRange t.b
-  pub c_in_range : AreInRange t.c
-  pub d_in_range : AreInRangeByIndex t.d
 
 -- What the laws ask of tensors.
 pub record AreSound (t : Entries) : Type 0 where

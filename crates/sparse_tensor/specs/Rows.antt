@@ -5,10 +5,12 @@ use mathlib.Core.Bool.{Bool, true, false, ◌&&◌, cond}
 use mathlib.Core.List.{List, [], ◌∷◌, ◌++◌}
 use lib.Dec.{ltb, eqb}
 use lib.ListN.{length, get_or}
-use Rattle.std.specs.Prelude.{Result, Ok, Err, insert}
+use Rattle.std.specs.Prelude.{Result, Ok, Err, insert, map}
+use Rattle.std.specs.declared.alloc.AllocError.{AllocError}
 use Rattle.std.specs.Coded.{Coded, code_by, coded×, coded_ℕ, coded_list}
 use Rattle.airy_math.specs.Rational.{ℚ, rational_code}
 use Rattle.airy_math.specs.RationalLaws.{0ℚ}
+use Rattle.sparse_tensor.specs.Items.{first_value, is_any, picked, put_in_front, Ascends}
 use Rattle.sparse_tensor.specs.Entries.{Entry, entry_code, value_of, is_given, with_value}
 
 -- One part of the tensors: its dim and its entries.
@@ -17,13 +19,19 @@ pub record Places : Type 0 where
   pub entries : List Entry
 
 abbrev pub places_code : Coded Places
-places_code = code_by (ℕ × List Entry) (coded× coded_ℕ (coded_list entry_code)) (λ p. (p.dim, p.entries)) (λ p. record { dim = p.0; entries = p.1 }) (λ _. refl)
+places_code = code_by (ℕ × List Entry) (coded× coded_ℕ (coded_list entry_code))
+    (λ p. (p.dim, p.entries))
+    (λ p. record { dim = p.0; entries = p.1 })
+    (λ _. refl)
 
 abbrev pub row_code : Coded (List (ℕ × ℚ))
 row_code = coded_list (coded× coded_ℕ rational_code)
 
 abbrev pub pair_row_code : Coded (List (ℕ × ℕ × ℚ))
-pair_row_code = coded_list (code_by (ℕ × (ℕ × ℚ)) (coded× coded_ℕ (coded× coded_ℕ rational_code)) (λ e. (e.0, (e.1, e.2))) (λ p. (p.0, p.1.0, p.1.1)) (λ _. refl))
+pair_row_code = coded_list (code_by (ℕ × (ℕ × ℚ)) (coded× coded_ℕ (coded× coded_ℕ rational_code))
+    (λ e. (e.0, (e.1, e.2)))
+    (λ p. (p.0, p.1.0, p.1.1))
+    (λ _. refl))
 
 -- ---- rows by two indices
 
@@ -37,73 +45,53 @@ same_pair j k e = eqb j e.0 && eqb k e.1
 
 -- the value at a pair, 0 where none stands there
 unfoldable pub pair_value : List (ℕ × ℕ × ℚ) → ℕ → ℕ → ℚ
-pair_value [] j k = 0ℚ
-pair_value (e ∷ es) j k = cond (same_pair j k e) e.2 (pair_value es j k)
+pair_value es j k = first_value (same_pair j k) (λ (e : ℕ × ℕ × ℚ). e.2) es
 
 -- whether an entry stands at a pair
 unfoldable pub has_pair : List (ℕ × ℕ × ℚ) → ℕ → ℕ → Bool
-has_pair [] j k = false
-has_pair (e ∷ es) j k = cond (same_pair j k e) true (has_pair es j k)
+has_pair es j k = is_any (same_pair j k) es
 
 -- the row with one more entry, in the order of pairs
 unfoldable pub with_pair : ℕ → ℕ → ℚ → List (ℕ × ℕ × ℚ) → List (ℕ × ℕ × ℚ)
-with_pair j k v [] = (j, k, v) ∷ []
-with_pair j k v (e ∷ es) = cond (pair_before j k e) ((j, k, v) ∷ e ∷ es) (e ∷ with_pair j k v es)
+with_pair j k v es = put_in_front (pair_before j k) (j, k, v) es
 
 -- each entry's pair is behind the one before it
 unfoldable pub IsAscendingByPair : List (ℕ × ℕ × ℚ) → Type 0
-IsAscendingByPair [] = Unit
-IsAscendingByPair (x ∷ []) = Unit
-IsAscendingByPair (x ∷ y ∷ es) = (pair_before x.0 x.1 y ≡ true) × IsAscendingByPair (y ∷ es)
+IsAscendingByPair = Ascends (λ (x y : ℕ × ℕ × ℚ). pair_before x.0 x.1 y)
 
 -- ---- what a search in a row answers
 
--- The entry at the place is that of the index k.
-pub record IsFound (k : ℕ) (es : List (ℕ × ℚ)) (at : ℕ) : Type 0 where
+-- An item is the one that is looked for, and stands at the place.
+pub record IsFound {E : Type 0} (is_there : Bool) (found : ℚ) (reads : E → ℚ) (es : List E) (at : ℕ) : Type 0 where
   pub within : at < length es
-  pub given : is_given es k ≡ true
-  pub value : (d : ℕ × ℚ) → value_of es k ≡ (get_or es at d).1
+  pub given : is_there ≡ true
+  pub value : (d : E) → found ≡ reads (get_or es at d)
 
--- The index k is not there, and the place is where it belongs.
-pub record IsGap (k : ℕ) (es : List (ℕ × ℚ)) (at : ℕ) : Type 0 where
+-- None is, and the place is where it belongs.
+pub record IsGap {E : Type 0} (is_there : Bool) (found : ℚ) (with : ℚ → List E) (item : ℚ → E) (es : List E) (at : ℕ) : Type 0 where
   pub within : at ≤ length es
-  pub given : is_given es k ≡ false
-  pub value : value_of es k ≡ 0ℚ
-  pub put : (v : ℚ) → with_value k v es ≡ insert es at (k, v)
+  pub given : is_there ≡ false
+  pub value : found ≡ 0ℚ
+  pub put : (v : ℚ) → with v ≡ insert es at (item v)
 
 -- a search for the index k answers where its entry stands, or would stand
 abbrev pub Finds : ℕ → List (ℕ × ℚ) → Result ℕ ℕ → Type 0
-Finds k es (Ok at) = IsFound k es at
-Finds k es (Err at) = IsGap k es at
-
--- The entry at the place is that of j and k.
-pub record IsPairFound (j k : ℕ) (es : List (ℕ × ℕ × ℚ)) (at : ℕ) : Type 0 where
-  pub within : at < length es
-  pub given : has_pair es j k ≡ true
-  pub value : (d : ℕ × ℕ × ℚ) → pair_value es j k ≡ (get_or es at d).2
-
--- The pair is not there, and the place is where it belongs.
-pub record IsPairGap (j k : ℕ) (es : List (ℕ × ℕ × ℚ)) (at : ℕ) : Type 0 where
-  pub within : at ≤ length es
-  pub given : has_pair es j k ≡ false
-  pub value : pair_value es j k ≡ 0ℚ
-  pub put : (v : ℚ) → with_pair j k v es ≡ insert es at (j, k, v)
+Finds k es (Ok at) = IsFound (is_given es k) (value_of es k) (λ (e : ℕ × ℚ). e.1) es at
+Finds k es (Err at) = IsGap (is_given es k) (value_of es k) (λ v. with_value k v es) (λ v. (k, v)) es at
 
 -- the same for a pair
 abbrev pub FindsPair : ℕ → ℕ → List (ℕ × ℕ × ℚ) → Result ℕ ℕ → Type 0
-FindsPair j k es (Ok at) = IsPairFound j k es at
-FindsPair j k es (Err at) = IsPairGap j k es at
+FindsPair j k es (Ok at) = IsFound (has_pair es j k) (pair_value es j k) (λ (e : ℕ × ℕ × ℚ). e.2) es at
+FindsPair j k es (Err at) = IsGap (has_pair es j k) (pair_value es j k) (λ v. with_pair j k v es) (λ v. (j, k, v)) es at
 
 -- ---- the entries that rows stand for
 
 -- the entries of the row of i and j, and those of the row of i
 unfoldable pub row_entries : ℕ → ℕ → List (ℕ × ℚ) → List Entry
-row_entries i j [] = []
-row_entries i j (e ∷ es) = record { i = i; j = j; k = e.0; v = e.1 } ∷ row_entries i j es
+row_entries i j es = map (λ (e : ℕ × ℚ). record { i = i; j = j; k = e.0; v = e.1 }) es
 
 unfoldable pub pair_entries : ℕ → List (ℕ × ℕ × ℚ) → List Entry
-pair_entries i [] = []
-pair_entries i (e ∷ es) = record { i = i; j = e.0; k = e.1; v = e.2 } ∷ pair_entries i es
+pair_entries i es = map (λ (e : ℕ × ℕ × ℚ). record { i = i; j = e.0; k = e.1; v = e.2 }) es
 
 -- the entries of the rows one after another, the first row having the number n
 unfoldable pub joined : {R : Type 0} → (ℕ → R → List Entry) → ℕ → List R → List Entry
@@ -116,10 +104,16 @@ grid_row dim n es = row_entries (n / dim) (n % dim) es
 
 -- the entries at i and j, by their last index
 unfoldable pub row_of : ℕ → ℕ → List Entry → List (ℕ × ℚ)
-row_of i j [] = []
-row_of i j (e ∷ es) = cond (eqb i e.i && eqb j e.j) ((e.k, e.v) ∷ row_of i j es) (row_of i j es)
+row_of i j es = picked (λ (e : Entry). eqb i e.i && eqb j e.j) (λ (e : Entry). (e.k, e.v)) es
 
 -- the entries at i, by their last two indices
 unfoldable pub pairs_of : ℕ → List Entry → List (ℕ × ℕ × ℚ)
-pairs_of i [] = []
-pairs_of i (e ∷ es) = cond (eqb i e.i) ((e.j, e.k, e.v) ∷ pairs_of i es) (pairs_of i es)
+pairs_of i es = picked (λ (e : Entry). eqb i e.i) (λ (e : Entry). (e.j, e.k, e.v)) es
+
+-- ---- what a put answers and leaves
+
+-- The place was free and holds the entry now, or was taken, or memory is wanting.
+abbrev pub PutsIn : {P : Type 0} → Result Bool AllocError → Bool → P → P → P → Type 0
+PutsIn (Ok true) taken old with new = (taken ≡ false) × (new ≡ with)
+PutsIn (Ok false) taken old with new = (taken ≡ true) × (new ≡ old)
+PutsIn (Err e) taken old with new = (taken ≡ false) × (new ≡ old)

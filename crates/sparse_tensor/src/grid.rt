@@ -1,6 +1,6 @@
-ghost use Rattle.std.specs.Prelude.{◌≡◌, ◌<◌, ◌+◌, ◌*◌, IfOk, OnErr, not, if◌then◌else◌, [], false};
+ghost use Rattle.std.specs.Prelude.{◌≡◌, ◌<◌, ◌+◌, ◌*◌, IfOk, []};
 ghost use Rattle.sparse_tensor.specs.Entries.{value_at, is_taken, with_entry};
-ghost use Rattle.sparse_tensor.specs.Rows.{row_of};
+ghost use Rattle.sparse_tensor.specs.Rows.{row_of, PutsIn};
 
 use crate::row::Row;
 use frac128::Frac;
@@ -73,10 +73,8 @@ impl Grid {
     pub fn put(&mut self, i: u8, j: u8, k: u8, v: Frac) -> Result<bool, AllocError>
         requires first { i < self.old.dim }
         requires second { j < self.old.dim }
-        ensures free { IfOk result (λ free. free ≡ not (is_taken self.old.entries i j k)) }
-        ensures put { IfOk result (λ free. self.new ≡ (if free then record self.old { entries = with_entry (record { i = i; j = j; k = k; v = v }) self.old.entries } else self.old)) }
-        ensures wanting { OnErr result (is_taken self.old.entries i j k ≡ false) }
-        ensures same { OnErr result (self.new ≡ self.old) }
+        ensures { PutsIn result (is_taken self.old.entries i j k) self.old
+            (record self.old { entries = with_entry (record { i = i; j = j; k = k; v = v }) self.old.entries }) self.new }
     {
         let number = row_number(self.dim, i, j);
         let row = &mut self.rows[number];

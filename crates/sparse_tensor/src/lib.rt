@@ -5,10 +5,12 @@ mod grades;
 mod grid;
 mod pair_row;
 mod pairs;
+mod parts;
 mod row;
 mod tensors;
 
 pub use airy_math::{Law, Shape};
+pub use parts::Part;
 pub use tensors::{NoMemory, PutErr, Tensors};
 
 #[cfg(test)]

@@ -1,6 +1,6 @@
-ghost use Rattle.std.specs.Prelude.{◌≡◌, ◌<◌, IfOk, OnErr, not, if◌then◌else◌, [], false};
+ghost use Rattle.std.specs.Prelude.{◌≡◌, ◌<◌, IfOk, []};
 ghost use Rattle.sparse_tensor.specs.Entries.{value_at, is_taken, with_entry};
-ghost use Rattle.sparse_tensor.specs.Rows.{pairs_of};
+ghost use Rattle.sparse_tensor.specs.Rows.{pairs_of, PutsIn};
 
 use crate::pair_row::PairRow;
 use frac128::Frac;
@@ -57,10 +57,8 @@ impl Pairs {
     /// Puts an entry, and answers whether the place was free.
     pub fn put(&mut self, i: u8, j: u8, k: u8, v: Frac) -> Result<bool, AllocError>
         requires { i < self.old.dim }
-        ensures free { IfOk result (λ free. free ≡ not (is_taken self.old.entries i j k)) }
-        ensures put { IfOk result (λ free. self.new ≡ (if free then record self.old { entries = with_entry (record { i = i; j = j; k = k; v = v }) self.old.entries } else self.old)) }
-        ensures wanting { OnErr result (is_taken self.old.entries i j k ≡ false) }
-        ensures same { OnErr result (self.new ≡ self.old) }
+        ensures { PutsIn result (is_taken self.old.entries i j k) self.old
+            (record self.old { entries = with_entry (record { i = i; j = j; k = k; v = v }) self.old.entries }) self.new }
     {
         let row = &mut self.rows[i as usize];
         row.put(j, k, v)

@@ -1,14 +1,15 @@
-ghost use Rattle.std.specs.Prelude.{◌≡◌, ◌≤◌, ◌<◌, ◌↔◌, true, IsTrue, IsOk, OnOk, OnErr, IfOk, IfErr, IsErrOf};
-ghost use Rattle.sparse_tensor.specs.Entries.{looked_up, no_entries};
-ghost use Rattle.sparse_tensor.specs.Grades.{IsSmallLaw, IsAtMost, AreSound};
+ghost use Rattle.std.specs.Prelude.{◌≡◌, ◌≤◌, ◌<◌, ◌↔◌, true, ltb, IsTrue, IsOk, OnOk, OnErr, IfOk, IfErr, IsErrOf};
+ghost use Rattle.sparse_tensor.specs.Entries.{looked_up, no_entries, is_given};
+ghost use Rattle.sparse_tensor.specs.Grades.{IsSmallLaw, IsAtMost, AreSound, keeps_d};
+ghost use Rattle.sparse_tensor.specs.Rows.{PutsIn};
 ghost use Rattle.sparse_tensor.specs.Parts.{checked, answered};
-ghost use Rattle.sparse_tensor.specs.Puts.{are_inside, putting_a, putting_b, putting_c, putting_d, Outside, Nothing, Ungraded, Taken, IsAllowed, with_a, with_b, with_c, with_d};
+ghost use Rattle.sparse_tensor.specs.Puts.{are_inside, keeps_in, taken_in, with_in, putting_in, IsPut, IsAdmitted, putting_a, putting_b, putting_c, putting_d, Outside, Nothing, Ungraded, Taken, IsAllowed, with_a, with_b, with_c, with_d};
 ghost use Rattle.airy_math.specs.Tensors.{is_zero, row_b, row_c};
-ghost use Rattle.airy_math.specs.Obtained.{IsInRange};
 
 use crate::grades::{keeps_a, keeps_b, keeps_c, keeps_d};
 use crate::grid::Grid;
 use crate::pairs::Pairs;
+use crate::parts::Part;
 use crate::row::Row;
 use airy_math::Shape;
 use frac128::Frac;
@@ -65,12 +66,23 @@ fn are_inside(dim: u8, i: u8, j: u8, k: u8) -> bool
     i < dim && j < dim && k < dim
 }
 
+/// Whether an entry of the part keeps the grading.
+#[tactic(auto, unfolding(crate::specs::Puts::keeps_in))]
+fn keeps_in(part: Part, shape: Shape, i: u8, j: u8, k: u8) -> bool
+    requires { IsSmallLaw shape }
+    ensures { result ≡ keeps_in part shape i j k }
+{
+    match part {
+        Part::A => keeps_a(shape, i, j, k),
+        Part::B => keeps_b(shape, i, j, k),
+        Part::C => keeps_c(shape, i, j, k),
+    }
+}
+
 /// Whether the entry v is to be stored, or why it can't be.
 fn admitted(inside: bool, v: Frac, graded: bool) -> Result<bool, PutErr>
-    ensures value { result ≡ checked inside (is_zero v) graded }
-    ensures range_fact { IsInRange v }
+    ensures { result ≡ checked inside (is_zero v) graded }
 {
-    v.range_fact();
     if !inside {
         Err(PutErr::Index)
     } else if v.is_zero() {
@@ -118,7 +130,47 @@ impl Tensors {
         })
     }
 
+    /// Whether an entry of the part is to be stored, or why it can't be.
+    fn admitted_in(&self, part: Part, i: u8, j: u8, k: u8, v: Frac) -> Result<bool, PutErr>
+        ensures { result ≡ checked (are_inside self.now.dim i j k) (is_zero v) (keeps_in part self.now.shape i j k) }
+    {
+        let inside = are_inside(self.dim, i, j, k);
+        admitted(inside, v, keeps_in(part, self.shape, i, j, k))
+    }
+
+    /// The same of an entry of D.
+    fn admitted_d(&self, i: u8, v: Frac) -> Result<bool, PutErr>
+        ensures { result ≡ checked (ltb i self.now.dim) (is_zero v) (keeps_d self.now.shape i) }
+    {
+        admitted(i < self.dim, v, keeps_d(self.shape, i))
+    }
+
+    /// Stores an entry that passes the checks, and answers whether its place was free.
+    fn store(&mut self, part: Part, i: u8, j: u8, k: u8, v: Frac) -> Result<bool, NoMemory>
+        requires { IsAdmitted (are_inside self.old.dim i j k) (is_zero v) (keeps_in part self.old.shape i j k) }
+        ensures { PutsIn result (taken_in part self.old i j k) self.old (with_in part self.old i j k v) self.new }
+    {
+        v.range_fact();
+        match part {
+            Part::A => self.a.put(i, j.min(k), j.max(k), v),
+            Part::B => self.b.put(i, j, k, v),
+            Part::C => self.c.put(i, j.min(k), j.max(k), v),
+        }
+    }
+
+    /// Puts an entry of the part, as `put_a`, `put_b` and `put_c` do.
+    pub fn put(&mut self, part: Part, i: u8, j: u8, k: u8, v: Frac) -> Result<(), PutErr>
+        ensures { IsPut result (putting_in part self.old i j k v) self.old (with_in part self.old i j k v) self.new }
+    {
+        match self.admitted_in(part, i, j, k, v) {
+            Err(why) => Err(why),
+            Ok(false) => Ok(()),
+            Ok(true) => stored(self.store(part, i, j, k, v)),
+        }
+    }
+
     /// Puts `A^i_{jk}`, which is `A^i_{kj}` too. A zero value stores nothing.
+    #[tactic(auto, unfolding(crate::specs::Puts::putting_a, crate::specs::Puts::putting_in, crate::specs::Puts::keeps_in, crate::specs::Puts::taken_in, crate::specs::Puts::with_in))]
     pub fn put_a(&mut self, i: u8, j: u8, k: u8, v: Frac) -> Result<(), PutErr>
         ensures index { IsErrOf result PutErr.Index ↔ (putting_a self.old i j k v ≡ Outside) }
         ensures grade { IsErrOf result PutErr.Grade ↔ (putting_a self.old i j k v ≡ Ungraded) }
@@ -128,14 +180,11 @@ impl Tensors {
         ensures put { OnOk result (self.new ≡ with_a self.old i j k v) }
         ensures same { OnErr result (self.new ≡ self.old) }
     {
-        let inside = are_inside(self.dim, i, j, k);
-        if admitted(inside, v, keeps_a(self.shape, i, j, k))? {
-            return stored(self.a.put(i, j.min(k), j.max(k), v));
-        }
-        Ok(())
+        self.put(Part::A, i, j, k, v)
     }
 
     /// Puts `B^i_{jk}`. A zero value stores nothing.
+    #[tactic(auto, unfolding(crate::specs::Puts::putting_b, crate::specs::Puts::putting_in, crate::specs::Puts::keeps_in, crate::specs::Puts::taken_in, crate::specs::Puts::with_in))]
     pub fn put_b(&mut self, i: u8, j: u8, k: u8, v: Frac) -> Result<(), PutErr>
         ensures index { IsErrOf result PutErr.Index ↔ (putting_b self.old i j k v ≡ Outside) }
         ensures grade { IsErrOf result PutErr.Grade ↔ (putting_b self.old i j k v ≡ Ungraded) }
@@ -145,14 +194,11 @@ impl Tensors {
         ensures put { OnOk result (self.new ≡ with_b self.old i j k v) }
         ensures same { OnErr result (self.new ≡ self.old) }
     {
-        let inside = are_inside(self.dim, i, j, k);
-        if admitted(inside, v, keeps_b(self.shape, i, j, k))? {
-            return stored(self.b.put(i, j, k, v));
-        }
-        Ok(())
+        self.put(Part::B, i, j, k, v)
     }
 
     /// Puts `C^i_{jk}`, which is `C^i_{kj}` too. A zero value stores nothing.
+    #[tactic(auto, unfolding(crate::specs::Puts::putting_c, crate::specs::Puts::putting_in, crate::specs::Puts::keeps_in, crate::specs::Puts::taken_in, crate::specs::Puts::with_in))]
     pub fn put_c(&mut self, i: u8, j: u8, k: u8, v: Frac) -> Result<(), PutErr>
         ensures index { IsErrOf result PutErr.Index ↔ (putting_c self.old i j k v ≡ Outside) }
         ensures grade { IsErrOf result PutErr.Grade ↔ (putting_c self.old i j k v ≡ Ungraded) }
@@ -162,11 +208,16 @@ impl Tensors {
         ensures put { OnOk result (self.new ≡ with_c self.old i j k v) }
         ensures same { OnErr result (self.new ≡ self.old) }
     {
-        let inside = are_inside(self.dim, i, j, k);
-        if admitted(inside, v, keeps_c(self.shape, i, j, k))? {
-            return stored(self.c.put(i, j.min(k), j.max(k), v));
-        }
-        Ok(())
+        self.put(Part::C, i, j, k, v)
+    }
+
+    /// Stores an entry of D that passes the checks, and answers whether its place was free.
+    fn store_d(&mut self, i: u8, v: Frac) -> Result<bool, NoMemory>
+        requires { IsAdmitted (ltb i self.old.dim) (is_zero v) (keeps_d self.old.shape i) }
+        ensures { PutsIn result (is_given self.old.d i) self.old (with_d self.old i v) self.new }
+    {
+        v.range_fact();
+        self.d.put(i, v)
     }
 
     /// Puts `D^i`. A zero value stores nothing.
@@ -179,11 +230,11 @@ impl Tensors {
         ensures put { OnOk result (self.new ≡ with_d self.old i v) }
         ensures same { OnErr result (self.new ≡ self.old) }
     {
-        let inside = i < self.dim;
-        if admitted(inside, v, keeps_d(self.shape, i))? {
-            return stored(self.d.put(i, v));
+        match self.admitted_d(i, v) {
+            Err(why) => Err(why),
+            Ok(false) => Ok(()),
+            Ok(true) => stored(self.store_d(i, v)),
         }
-        Ok(())
     }
 
     /// `A^i_{jk}`, 0 where no entry stands there.

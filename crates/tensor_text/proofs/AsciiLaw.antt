@@ -1,6 +1,5 @@
 -- The canonical text of tensors is ASCII, and so UTF-8.
-use Rattle.std.proofs.Common.{◌≡◌, ℕ, suc, ◌<◌, ◌≤◌, ◌^◌, Bool, true, false, List, [], ◌∷◌, ◌++◌, refl, arith, ℤ, pos, negsuc, IsUtf8}
-use Rattle.std.specs.Prelude.{decimal, codes, ◌≤ℤ◌}
+use Rattle.std.proofs.Common.{ℕ, suc, ◌≤◌, Bool, true, false, List, [], ◌∷◌, ◌++◌, refl, arith, ℤ, pos, negsuc, IsUtf8, decimal, codes, ◌≤ℤ◌}
 use Rattle.std.specs.Fmt.{signed_decimal}
 use Rattle.std.specs.List.{flat_map}
 use Rattle.std.proofs.lemmas.Int.{ints}
@@ -12,8 +11,8 @@ use Rattle.airy_math.specs.declared.Shape.TheVariants.{All, Exact, AtMost}
 use Rattle.frac128.specs.Fraction.{fraction_text}
 use Rattle.sparse_tensor.specs.Entries.{Entries, Entry}
 use Rattle.sparse_tensor.specs.Grades.{IsSmallLaw, AreStored, AreStoredByIndex, AreInRange, AreInRangeByIndex, AreEntries}
-use Rattle.tensor_text.specs.declared.letters.Letter.{Letter}
-use Rattle.tensor_text.specs.declared.letters.Letter.TheVariants.{A, B, C}
+use Rattle.sparse_tensor.specs.declared.parts.Part.{Part}
+use Rattle.sparse_tensor.specs.declared.parts.Part.TheVariants.{A, B, C}
 use Rattle.tensor_text.specs.Canonical.{letter_text, spaced, place_text, index_text, dim_text, header_text, law_text, letter_word, shape_text, first_text, entries_text, canonical_text}
 use Rattle.tensor_text.proofs.PlainLemmas.{are_ascii, AreAscii, joined, word, of-plain, utf8-ascii, plain-decimal, plain-signed, plain-fraction}
 
@@ -24,7 +23,7 @@ of-spaced n h = joined (word (codes " ") refl) (of-plain (decimal n) (plain-deci
 of-fraction : (v : ℚ) → IsInRange v → AreAscii (fraction_text v)
 of-fraction v r = of-plain (fraction_text v) (plain-fraction v r)
 
-of-letter : (letter : Letter) → AreAscii (letter_text letter)
+of-letter : (letter : Part) → AreAscii (letter_text letter)
 unfolding are_ascii
 of-letter A = word (codes "A") refl
 of-letter B = word (codes "B") refl
@@ -35,7 +34,7 @@ of-value : {text : List ℕ} (v : ℚ) → AreAscii text → IsInRange v → Are
 unfolding are_ascii
 of-value v p r = joined (joined (joined p (word (codes " ") refl)) (of-fraction v r)) (word (codes "\n") refl)
 
-of-place : (letter : Letter) (e : Entry) → e.i ≤ 72 → e.j ≤ 72 → e.k ≤ 72 → IsInRange e.v → AreAscii (place_text letter e)
+of-place : (letter : Part) (e : Entry) → e.i ≤ 72 → e.j ≤ 72 → e.k ≤ 72 → IsInRange e.v → AreAscii (place_text letter e)
 unfolding place_text
 of-place letter e i j k r = of-value e.v (joined (joined (joined (of-letter letter) (of-spaced e.i i)) (of-spaced e.j j)) (of-spaced e.k k)) r
 
@@ -43,7 +42,7 @@ of-index : (e : ℕ × ℚ) → e.0 ≤ 72 → IsInRange e.1 → AreAscii (index
 unfolding index_text are_ascii
 of-index e i r = of-value e.1 (joined (word (codes "D") refl) (of-spaced e.0 i)) r
 
-of-places : (letter : Letter) (grade : ℕ → ℕ → ℕ → Bool) (dim : ℕ) (es : List Entry) → dim ≤ 72 → AreStored grade dim es → AreInRange es → AreAscii (flat_map (place_text letter) es)
+of-places : (letter : Part) (grade : ℕ → ℕ → ℕ → Bool) (dim : ℕ) (es : List Entry) → dim ≤ 72 → AreStored grade dim es → AreInRange es → AreAscii (flat_map (place_text letter) es)
 unfolding AreStored AreInRange are_ascii
 of-places letter grade dim [] most s r = word [] refl
 of-places letter grade dim (e ∷ es) most s r =
@@ -90,10 +89,10 @@ pub ascii-canonical : (t : Entries) → AreEntries t → AreAscii (canonical_tex
 unfolding first_text entries_text canonical_text are_ascii
 ascii-canonical t e =
     joined (joined (of-header t.shape) (joined (of-dim t.dim e.most) (of-shape t.shape t.letter e.law)))
-    (joined (of-places A _ t.dim t.a e.most e.a_stored e.a_in_range)
-    (joined (of-places B _ t.dim t.b e.most e.b_stored e.b_in_range)
-    (joined (of-places C _ t.dim t.c e.most e.c_stored e.c_in_range)
-    (joined (of-indices _ t.dim t.d e.most e.d_stored e.d_in_range) (word (codes "end\n") refl)))))
+    (joined (of-places A _ t.dim t.a e.most e.a.stored e.a.in_range)
+    (joined (of-places B _ t.dim t.b e.most e.b.stored e.b.in_range)
+    (joined (of-places C _ t.dim t.c e.most e.c.stored e.c.in_range)
+    (joined (of-indices _ t.dim t.d e.most e.d.stored e.d.in_range) (word (codes "end\n") refl)))))
 
 pub utf8-canonical : (t : Entries) → AreEntries t → IsUtf8 (canonical_text t)
 utf8-canonical t e = utf8-ascii (canonical_text t) (ascii-canonical t e)

@@ -1,24 +1,25 @@
 -- The grammar reads the canonical text of tensors as the same tensors.
-use Rattle.std.proofs.Common.{◌≡◌, ℕ, suc, ◌+◌, ◌<◌, ◌≤◌, Bool, true, false, cond, List, [], ◌∷◌, ◌++◌, length, refl, ap, ◌∙◌, arith, append_assoc, Some}
-use Rattle.std.specs.Prelude.{decimal, codes}
+use Rattle.std.proofs.Common.{ltb-true, ◌≡◌, ℕ, suc, ◌+◌, ◌<◌, ◌≤◌, Bool, true, false, cond, List, [], ◌∷◌, ◌++◌, length, refl, ap, ◌∙◌, arith, append_assoc, Some, decimal, codes}
 use Rattle.std.specs.Fmt.{signed_decimal}
-use Rattle.std.specs.List.{flat_map, AllByRecursion}
+use Rattle.std.specs.List.{flat_map}
 use Rattle.airy_math.specs.Rational.{ℚ}
 use Rattle.airy_math.specs.declared.Law.{Law}
 use Rattle.airy_math.specs.declared.Shape.{Shape}
 use Rattle.airy_math.specs.declared.Shape.TheVariants.{All, Exact, AtMost}
 use Rattle.sparse_tensor.specs.Entries.{Entries, Entry, no_entries}
-use Rattle.sparse_tensor.specs.Grades.{IsSmallLaw, IsAtMost, IsAscendingByIndex, keeps_a, keeps_b, keeps_c, keeps_d, AreStored, AreOrdered, AreStoredByIndex, AreInRange, AreInRangeByIndex, AreEntries}
-use Rattle.tensor_text.specs.declared.letters.Letter.{Letter}
-use Rattle.tensor_text.specs.declared.letters.Letter.TheVariants.{A, B, C}
+use Rattle.sparse_tensor.specs.Grades.{ArePlaced, IsSmallLaw, IsAtMost, IsAscendingByIndex, keeps_d, AreStored, AreOrdered, AreStoredByIndex, AreInRange, AreInRangeByIndex, AreEntries}
+use Rattle.sparse_tensor.specs.declared.parts.Part.{Part}
+use Rattle.sparse_tensor.specs.declared.parts.Part.TheVariants.{A, B, C}
 use Rattle.tensor_text.specs.Lines.{lines, parts}
-use Rattle.tensor_text.specs.Grammar.{Read, Lines, Line, End, counted, is_skipped, is_note, only_word, two_words, version_of, header_line, dim_line, law_by, law_of, exact_shape, letter_given, at_most_by, at_most_shape, shape_words, shape_line, letter_of, keeps_in, end_line, said_by, said, after_end, then_read, entries_from, shape_read, shape_from, dim_read, dim_from, header_read, header_from, reading_of}
+use Rattle.tensor_text.specs.Grammar.{Read, Lines, Line, End, counted, is_skipped, is_note, only_word, two_words, version_of, header_line, dim_line, law_by, law_of, exact_shape, letter_given, at_most_by, at_most_shape, shape_words, shape_line, letter_of, end_line, said_by, said, after_end, then_read, entries_from, shape_read, shape_from, dim_read, dim_from, header_read, header_from, reading_of}
+use Rattle.sparse_tensor.specs.Puts.{keeps_in}
 use Rattle.tensor_text.specs.Canonical.{place_text, index_text, dim_text, header_text, shape_text, first_text, entries_text, canonical_text}
-use Rattle.tensor_text.specs.Pieces.{first_in}
+use Rattle.tensor_text.specs.Pieces.{entries_of, first_in}
 use Rattle.tensor_text.proofs.PieceLaw.{rises}
 use Rattle.tensor_text.proofs.BackValues.{dim_back, signed_back}
 use Rattle.tensor_text.proofs.BackLines.{AreWords, word_by_test, joined_line, decimal_word, law_are_words, law_words, letter_words, letter_are_words, dim_is, exact_is, at_most_is}
 use Rattle.tensor_text.proofs.BackEntries.{with_list, with_values, IsReadable, IsReadableAt, Climb, read_places, read_indices}
+use Rattle.airy_math.proofs.SumLemmas.{Each, Each-from_all}
 
 -- ---- the header and the dim
 
@@ -116,23 +117,14 @@ end_read t n = ap (entries_from t) (end_counted n)
 
 -- ---- stored entries are readable
 
-ordered : (es : List Entry) → AreOrdered es → AllByRecursion (λ e. e.j ≤ e.k) es
-unfolding AreOrdered
-ordered [] o = tt
-ordered (e ∷ es) o = (o.0, ordered es o.1)
-
-unordered : (es : List Entry) → AllByRecursion (λ e. 0 ≤ e.k) es
-unordered [] = tt
-unordered (e ∷ es) = (omega arith, unordered es)
-
-readable : (letter : Letter) (shape : Shape) (dim : ℕ) (grade : ℕ → ℕ → ℕ → Bool) (es : List Entry) → dim ≤ 72 → ((i j k : ℕ) → grade i j k ≡ true → keeps_in letter shape i j k ≡ true)
-    → AreStored grade dim es → AllByRecursion (λ e. first_in letter e.j ≤ e.k) es → AreInRange es → AllByRecursion (IsReadable shape dim letter) es
+readable : (letter : Part) (shape : Shape) (dim : ℕ) (grade : ℕ → ℕ → ℕ → Bool) (es : List Entry) → dim ≤ 72 → ((i j k : ℕ) → grade i j k ≡ true → keeps_in letter shape i j k ≡ true)
+    → AreStored grade dim es → Each (λ e. first_in letter e.j ≤ e.k) es → AreInRange es → Each (IsReadable shape dim letter) es
 unfolding AreStored AreInRange
 readable letter shape dim grade [] h keeps s o r = tt
 readable letter shape dim grade (e ∷ es) h keeps s o r =
     (record { i = s.0.0; j = s.0.1; k = s.0.2; first = o.0; some = s.0.3; graded = keeps e.i e.j e.k s.0.4; range = r.0; small = h }, readable letter shape dim grade es h keeps s.1 o.1 r.1)
 
-indices_readable : (shape : Shape) (dim : ℕ) (es : List (ℕ × ℚ)) → dim ≤ 72 → AreStoredByIndex (keeps_d shape) dim es → AreInRangeByIndex es → AllByRecursion (IsReadableAt shape dim) es
+indices_readable : (shape : Shape) (dim : ℕ) (es : List (ℕ × ℚ)) → dim ≤ 72 → AreStoredByIndex (keeps_d shape) dim es → AreInRangeByIndex es → Each (IsReadableAt shape dim) es
 unfolding AreStoredByIndex AreInRangeByIndex
 indices_readable shape dim [] h s r = tt
 indices_readable shape dim (e ∷ es) h s r = (record { i = s.0.0; some = s.0.1; graded = s.0.2; range = r.0; small = h }, indices_readable shape dim es h s.1 r.1)
@@ -140,7 +132,7 @@ indices_readable shape dim (e ∷ es) h s r = (record { i = s.0.0; some = s.0.1;
 climb_from : (n : ℕ) (x : ℕ × ℚ) (es : List (ℕ × ℚ)) → n ≤ x.0 → IsAscendingByIndex (x ∷ es) → Climb n (x ∷ es)
 unfolding IsAscendingByIndex
 climb_from n x [] h a = (h, tt)
-climb_from n x (y ∷ es) h a = (h, climb_from (suc x.0) y es (omega (arith, a.0)) a.1)
+climb_from n x (y ∷ es) h a = (h, climb_from (suc x.0) y es (omega (arith, ltb-true x.0 y.0 a.0)) a.1)
 
 climbs : (es : List (ℕ × ℚ)) → IsAscendingByIndex es → Climb 0 es
 climbs [] a = tt
@@ -156,43 +148,44 @@ start_is : (t : Entries) → no_entries t.dim t.shape t.letter ≡ read_so_far t
 unfolding no_entries read_so_far
 start_is t = refl
 
-a_read : (t : Entries) (n : ℕ) (more : List ℕ) → AreEntries t → entries_from (read_so_far t [] [] [] []) (counted n (lines (flat_map (place_text A) t.a ++ more))) ≡ entries_from (read_so_far t t.a [] [] []) (counted (n + length t.a) (lines more))
-unfolding read_so_far with_list keeps_in
-a_read t n more s =
-    read_places A (read_so_far t [] [] [] []) [] t.a 0 n more tt (rises _ t.dim t.a s.most s.a_ascends s.a_stored)
-    (readable A t.shape t.dim (keeps_a t.shape) t.a s.most (λ i j k h. h) s.a_stored (ordered t.a s.a_ordered) s.a_in_range)
+-- what the list of a part keeps, and the entries before its lines
+ordered_in : (letter : Part) (t : Entries) → AreEntries t → Each (λ e. first_in letter e.j ≤ e.k) (entries_of letter t)
+unfolding AreOrdered
+ordered_in A t s = s.a_ordered
+ordered_in B t s = Each-from_all _ t.b (λ e. omega arith)
+ordered_in C t s = s.c_ordered
 
-b_read : (t : Entries) (n : ℕ) (more : List ℕ) → AreEntries t → entries_from (read_so_far t t.a [] [] []) (counted n (lines (flat_map (place_text B) t.b ++ more))) ≡ entries_from (read_so_far t t.a t.b [] []) (counted (n + length t.b) (lines more))
-unfolding read_so_far with_list keeps_in
-b_read t n more s =
-    read_places B (read_so_far t t.a [] [] []) [] t.b 0 n more tt (rises _ t.dim t.b s.most s.b_ascends s.b_stored)
-    (readable B t.shape t.dim (keeps_b t.shape) t.b s.most (λ i j k h. h) s.b_stored (unordered t.b) s.b_in_range)
+placed_in : (letter : Part) (t : Entries) → AreEntries t → ArePlaced (keeps_in letter t.shape) t.dim (entries_of letter t)
+unfolding keeps_in
+placed_in A t s = s.a
+placed_in B t s = s.b
+placed_in C t s = s.c
 
-c_read : (t : Entries) (n : ℕ) (more : List ℕ) → AreEntries t → entries_from (read_so_far t t.a t.b [] []) (counted n (lines (flat_map (place_text C) t.c ++ more))) ≡ entries_from (read_so_far t t.a t.b t.c []) (counted (n + length t.c) (lines more))
-unfolding read_so_far with_list keeps_in
-c_read t n more s =
-    read_places C (read_so_far t t.a t.b [] []) [] t.c 0 n more tt (rises _ t.dim t.c s.most s.c_ascends s.c_stored)
-    (readable C t.shape t.dim (keeps_c t.shape) t.c s.most (λ i j k h. h) s.c_stored (ordered t.c s.c_ordered) s.c_in_range)
+part_read : (letter : Part) (t before : Entries) (n : ℕ) (more : List ℕ) → AreEntries t → before.dim ≡ t.dim → before.shape ≡ t.shape → entries_from (with_list letter before []) (counted n (lines (flat_map (place_text letter) (entries_of letter t) ++ more))) ≡ entries_from (with_list letter before (entries_of letter t)) (counted (n + length (entries_of letter t)) (lines more))
+part_read letter t before n more s d e =
+    let p = placed_in letter t s in
+    read_places letter before [] (entries_of letter t) 0 n more tt (rises _ t.dim _ s.most p.ascend p.stored)
+    (rw (d, e) (readable letter t.shape t.dim (keeps_in letter t.shape) _ s.most (λ i j k h. h) p.stored (ordered_in letter t s) p.in_range))
 
 d_read : (t : Entries) (n : ℕ) (more : List ℕ) → AreEntries t → entries_from (read_so_far t t.a t.b t.c []) (counted n (lines (flat_map index_text t.d ++ more))) ≡ entries_from (read_so_far t t.a t.b t.c t.d) (counted (n + length t.d) (lines more))
 unfolding read_so_far with_values
-d_read t n more s = read_indices (read_so_far t t.a t.b t.c []) [] t.d 0 n more tt (climbs t.d s.d_ascends) (indices_readable t.shape t.dim t.d s.most s.d_stored s.d_in_range)
+d_read t n more s = read_indices (read_so_far t t.a t.b t.c []) [] t.d 0 n more tt (climbs t.d s.d.ascend) (indices_readable t.shape t.dim t.d s.most s.d.stored s.d.in_range)
 
 same_tensors : (t : Entries) → read_so_far t t.a t.b t.c t.d ≡ t
 unfolding read_so_far
 same_tensors t = refl
 
 entries_read : (t : Entries) (n : ℕ) → AreEntries t → entries_from (no_entries t.dim t.shape t.letter) (counted n (lines (entries_text t))) ≡ Read t
-unfolding entries_text
+unfolding entries_text read_so_far with_list
 entries_read t n s =
     let b = flat_map (place_text B) t.b in
     let c = flat_map (place_text C) t.c in
     let d = flat_map index_text t.d in
     let last = codes "end\n" in
     ap (λ u. entries_from u (counted n (lines (flat_map (place_text A) t.a ++ (b ++ (c ++ (d ++ last))))))) (start_is t)
-    ∙ a_read t n (b ++ (c ++ (d ++ last))) s
-    ∙ b_read t _ (c ++ (d ++ last)) s
-    ∙ c_read t _ (d ++ last) s
+    ∙ part_read A t (read_so_far t [] [] [] []) n (b ++ (c ++ (d ++ last))) s refl refl
+    ∙ part_read B t (read_so_far t t.a [] [] []) _ (c ++ (d ++ last)) s refl refl
+    ∙ part_read C t (read_so_far t t.a t.b [] []) _ (d ++ last) s refl refl
     ∙ d_read t _ last s
     ∙ end_read (read_so_far t t.a t.b t.c t.d) _
     ∙ ap Read (same_tensors t)

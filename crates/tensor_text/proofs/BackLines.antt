@@ -1,6 +1,5 @@
 -- Words that are joined by spaces and ended by a line feed are one line, and these words.
-use Rattle.std.proofs.Common.{◌≡◌, ℕ, suc, ◌-◌, ◌<◌, ◌^◌, ◌≤◌, Bool, true, false, cond, eqb, ltb, List, [], ◌∷◌, ◌++◌, length, get_or, map, refl, ap, ◌∙◌, arith, append_assoc, length-append, ℤ, pos, negsuc}
-use lib.IntN.{nat_abs}
+use Rattle.std.proofs.Common.{◌≡◌, ℕ, suc, ◌-◌, ◌<◌, ◌^◌, ◌≤◌, Bool, true, false, cond, eqb, ltb, List, [], ◌∷◌, ◌++◌, length, get_or, map, refl, ap, ◌∙◌, arith, append_assoc, length-append, ℤ, pos, negsuc, nat_abs}
 use Rattle.std.specs.Prelude.{decimal, codes, ◌==◌, ◌≤ℤ◌}
 use Rattle.std.specs.Fmt.{signed_decimal}
 use Rattle.std.specs.List.{AllByRecursion}
@@ -16,7 +15,7 @@ use Rattle.airy_math.specs.declared.Shape.TheVariants.{Exact, AtMost}
 use Rattle.frac128.specs.Fraction.{fraction_text}
 use Rattle.sparse_tensor.specs.Entries.{Entry}
 use Rattle.sparse_tensor.specs.Grades.{IsSmallLaw}
-use Rattle.tensor_text.specs.declared.letters.Letter.{Letter}
+use Rattle.sparse_tensor.specs.declared.parts.Part.{Part}
 use Rattle.tensor_text.specs.Lines.{onto_first, parts, is_feed, is_blank, lines, nonempty, words}
 use Rattle.tensor_text.specs.Grammar.{Line, counted, is_skipped}
 use Rattle.tensor_text.specs.Canonical.{letter_text, place_text, index_text, dim_text, shape_text}
@@ -146,10 +145,10 @@ fraction_word v r =
 
 -- ---- the written lines as words
 
-abbrev pub place_line_words : Letter → Entry → List (List ℕ)
+abbrev pub place_line_words : Part → Entry → List (List ℕ)
 place_line_words letter e = letter_text letter ∷ decimal e.i ∷ decimal e.j ∷ decimal e.k ∷ fraction_text e.v ∷ []
 
-pub place_is : (letter : Letter) (e : Entry) (rest : List ℕ) → place_text letter e ++ rest ≡ joined (place_line_words letter e) ++ 10 ∷ rest
+pub place_is : (letter : Part) (e : Entry) (rest : List ℕ) → place_text letter e ++ rest ≡ joined (place_line_words letter e) ++ 10 ∷ rest
 unfolding place_text
 place_is letter e rest = simp append_assoc
 

@@ -1,7 +1,5 @@
 -- What is written of a number or a fraction is read back.
-use Rattle.std.proofs.Common.{◌≡◌, ℕ, zero, suc, ◌+◌, ◌-◌, ◌*◌, ◌/◌, ◌%◌, ◌^◌, ◌<◌, ◌≤◌, Bool, true, false, cond, List, [], ◌∷◌, ◌++◌, length, refl, sym, ap, ap₂, ◌∙◌, arith, Some, None, Option, length-append, ℤ, pos, negsuc, neg_ℤ, append-nil}
-use lib.Dec.{T}
-use lib.IntN.{nat_abs}
+use Rattle.std.proofs.Common.{◌≡◌, ℕ, zero, suc, ◌+◌, ◌-◌, ◌*◌, ◌/◌, ◌%◌, ◌^◌, ◌<◌, ◌≤◌, Bool, true, false, cond, List, [], ◌∷◌, ◌++◌, length, refl, sym, ap, ap₂, ◌∙◌, arith, Some, None, Option, length-append, ℤ, pos, negsuc, neg_ℤ, append-nil, T, nat_abs}
 use Rattle.std.specs.Prelude.{decimal, ◌==◌, nat_le, ◌≤ℤ◌}
 use Rattle.std.specs.Fmt.{signed_decimal}
 use Rattle.std.specs.List.{AllByRecursion}

@@ -1,11 +1,10 @@
 -- The entries of the canonical text, place by place.
-use Rattle.std.proofs.Common.{◌≡◌, ℕ, List, ◌++◌, refl}
-use Rattle.std.specs.Prelude.{codes}
+use Rattle.std.proofs.Common.{◌≡◌, ℕ, List, ◌++◌, refl, codes}
 use Rattle.sparse_tensor.specs.Entries.{Entries}
 use Rattle.sparse_tensor.specs.Grades.{AreEntries}
 use Rattle.tensor_text.specs.Canonical.{entries_text}
 use Rattle.tensor_text.specs.Pieces.{places_piece, indices_piece}
-use Rattle.tensor_text.specs.declared.letters.Letter.TheVariants.{A, B, C}
+use Rattle.sparse_tensor.specs.declared.parts.Part.TheVariants.{A, B, C}
 use Rattle.tensor_text.proofs.PieceLaw.{places_are, indices_are}
 
 -- the text from the entries of D, of C and of B on

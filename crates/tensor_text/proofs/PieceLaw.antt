@@ -1,17 +1,16 @@
 -- What is written place by place is what the lists of entries say.
-use Rattle.std.proofs.Common.{◌≡◌, ℕ, zero, suc, ◌+◌, ◌-◌, ◌*◌, ◌<◌, ◌≤◌, ◌⊎◌, inl, inr, Bool, true, false, cond, eqb, ltb, List, [], ◌∷◌, ◌++◌, refl, sym, ap, ap₂, ◌∙◌, arith, append_assoc, append-nil}
-use Rattle.std.specs.Prelude.{min, max, ◌&&◌}
+use Rattle.std.proofs.Common.{◌≡◌, ℕ, zero, suc, ◌+◌, ◌-◌, ◌*◌, ◌<◌, ◌≤◌, ◌⊎◌, inl, inr, Bool, true, false, cond, eqb, ltb, List, [], ◌∷◌, ◌++◌, refl, sym, ap, ap₂, ◌∙◌, arith, append_assoc, append-nil, min, max, ◌&&◌}
 use Rattle.std.specs.List.{flat_map}
 use Rattle.std.proofs.lemmas.Bool.{cases_order, cases_lt, cases_eq, lt-ltb, le-ltb, eq-eqb, ne_eqb, ltb-true, eqb-true}
 use Rattle.airy_math.specs.Rational.{ℚ}
 use Rattle.airy_math.specs.RationalLaws.{0ℚ}
 use Rattle.airy_math.specs.Tensors.{is_zero}
 use Rattle.sparse_tensor.specs.Entries.{Entries, Entry, value_at, same_place, looked_up, place_before, value_of}
-use Rattle.sparse_tensor.specs.Grades.{IsAscending, AreStored, AreOrdered, IsAscendingByIndex, AreStoredByIndex, AreEntries}
+use Rattle.sparse_tensor.specs.Grades.{ArePlaced, keeps_a, keeps_c, IsAscending, AreStored, AreOrdered, IsAscendingByIndex, AreStoredByIndex, AreEntries}
 use Rattle.tensor_text.specs.Canonical.{place_text, index_text}
 use Rattle.tensor_text.specs.Pieces.{each_from, value_in, place_piece, row_piece, plane_piece, places_piece, index_piece, indices_piece, entries_of}
-use Rattle.tensor_text.specs.declared.letters.Letter.{Letter}
-use Rattle.tensor_text.specs.declared.letters.Letter.TheVariants.{A, B, C}
+use Rattle.sparse_tensor.specs.declared.parts.Part.{Part}
+use Rattle.sparse_tensor.specs.declared.parts.Part.TheVariants.{A, B, C}
 use Rattle.tensor_text.proofs.ZeroLemmas.{zero_test, some_test}
 
 -- ---- places as numbers
@@ -296,29 +295,21 @@ ordered_value es i j k h =
     let m : max j k ≡ k = omega arith in
     ap₂ (value_at es i) l m
 
-pub places_are : (letter : Letter) (t : Entries) → AreEntries t → places_piece letter t ≡ flat_map (place_text letter) (entries_of letter t)
+ordered_pieces : (text : Entry → List ℕ) (grade : ℕ → ℕ → ℕ → Bool) (dim : ℕ) (es : List Entry) → dim ≤ 72 → ArePlaced grade dim es → AreOrdered es
+    → each_from (λ i. each_from (λ j. each_from (λ k. piece text i j k (value_at es i (min j k) (max j k))) j (dim - j)) 0 dim) 0 dim ≡ flat_map text es
+ordered_pieces text grade dim es most p o = all_pieces text dim (λ j. j) _ es (record {
+  small = most;
+  low = λ j. omega arith;
+  rise = rises grade dim es most p.ascend p.stored;
+  inside = inside_ordered grade dim es p.stored o;
+  values = λ i j k h. ordered_value es i j k h;
+})
+
+pub places_are : (letter : Part) (t : Entries) → AreEntries t → places_piece letter t ≡ flat_map (place_text letter) (entries_of letter t)
 unfolding places_piece plane_piece row_piece place_piece value_in looked_up
-places_are A t s = all_pieces (place_text A) t.dim (λ j. j) _ t.a (record {
-  small = s.most;
-  low = λ j. omega arith;
-  rise = rises _ t.dim t.a s.most s.a_ascends s.a_stored;
-  inside = inside_ordered _ t.dim t.a s.a_stored s.a_ordered;
-  values = λ i j k h. ordered_value t.a i j k h;
-})
-places_are B t s = all_pieces (place_text B) t.dim (λ j. 0) _ t.b (record {
-  small = s.most;
-  low = λ j. omega arith;
-  rise = rises _ t.dim t.b s.most s.b_ascends s.b_stored;
-  inside = inside_free _ t.dim t.b s.b_stored;
-  values = λ i j k h. refl;
-})
-places_are C t s = all_pieces (place_text C) t.dim (λ j. j) _ t.c (record {
-  small = s.most;
-  low = λ j. omega arith;
-  rise = rises _ t.dim t.c s.most s.c_ascends s.c_stored;
-  inside = inside_ordered _ t.dim t.c s.c_stored s.c_ordered;
-  values = λ i j k h. ordered_value t.c i j k h;
-})
+places_are A t s = ordered_pieces (place_text A) (keeps_a t.shape) t.dim t.a s.most s.a s.a_ordered
+places_are B t s = all_pieces (place_text B) t.dim (λ j. 0) _ t.b (record { small = s.most; low = λ j. omega arith; rise = rises _ t.dim t.b s.most s.b.ascend s.b.stored; inside = inside_free _ t.dim t.b s.b.stored; values = λ i j k h. refl })
+places_are C t s = ordered_pieces (place_text C) (keeps_c t.shape) t.dim t.c s.most s.c s.c_ordered
 
 -- ---- the entries of D
 
@@ -390,7 +381,7 @@ index-step dim n i (e ∷ es) r = by (cases_order e.0 i) (index-step dim (suc e.
 rises_from_index : (grade : ℕ → Bool) (dim n : ℕ) (x : ℕ × ℚ) (es : List (ℕ × ℚ)) → n ≤ x.0 → IsAscendingByIndex (x ∷ es) → AreStoredByIndex grade dim (x ∷ es) → RiseByIndex dim n (x ∷ es)
 unfolding IsAscendingByIndex AreStoredByIndex RiseByIndex
 rises_from_index grade dim n x [] l a s = ((l, s.0.0, s.0.1), tt)
-rises_from_index grade dim n x (y ∷ es) l a s = ((l, s.0.0, s.0.1), rises_from_index grade dim (suc x.0) y es (omega (arith, a.0)) a.1 s.1)
+rises_from_index grade dim n x (y ∷ es) l a s = ((l, s.0.0, s.0.1), rises_from_index grade dim (suc x.0) y es (omega (arith, ltb-true x.0 y.0 a.0)) a.1 s.1)
 
 rises_by_index : (grade : ℕ → Bool) (dim : ℕ) (es : List (ℕ × ℚ)) → IsAscendingByIndex es → AreStoredByIndex grade dim es → RiseByIndex dim 0 es
 unfolding RiseByIndex
@@ -400,7 +391,7 @@ rises_by_index grade dim (x ∷ es) a s = rises_from_index grade dim 0 x es (ome
 pub indices_are : (t : Entries) → AreEntries t → indices_piece t ≡ flat_map index_text t.d
 unfolding indices_piece index_piece looked_up
 indices_are t s =
-    let rise = rises_by_index _ t.dim t.d s.d_ascends s.d_stored in
+    let rise = rises_by_index _ t.dim t.d s.d.ascend s.d.stored in
     let piece = λ (i : ℕ). piece_at i (value_of t.d i) in
     let tail = λ (i : ℕ). flat_map index_text (from_index i t.d) in
     let end : 0 + t.dim ≡ t.dim = omega arith in

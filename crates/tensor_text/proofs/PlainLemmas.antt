@@ -1,6 +1,5 @@
 -- Numbers and fractions are written in plain bytes: ASCII, from 32 on, and neither 34 nor 92, which are the quote and the backslash.
-use Rattle.std.proofs.Common.{◌≡◌, ◌≢◌, ℕ, zero, suc, ◌<◌, ◌≤◌, ◌^◌, ◌&&◌, Bool, true, false, cond, List, [], ◌∷◌, ◌++◌, refl, arith, ℤ, pos, negsuc, IsUtf8, ltb-true}
-use lib.IntN.{nat_abs}
+use Rattle.std.proofs.Common.{◌≡◌, ◌≢◌, ℕ, zero, suc, ◌<◌, ◌≤◌, ◌^◌, ◌&&◌, Bool, true, false, cond, List, [], ◌∷◌, ◌++◌, refl, arith, ℤ, pos, negsuc, IsUtf8, ltb-true, nat_abs}
 use Rattle.std.specs.Prelude.{◌==◌, decimal, nat_lt, IsAscii}
 use Rattle.std.specs.Fmt.{signed_decimal}
 use Rattle.std.specs.List.{AllByRecursion}

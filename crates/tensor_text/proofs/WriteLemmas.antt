@@ -1,5 +1,5 @@
 -- Texts that are written one after the other, and a part of the last.
-use Rattle.std.proofs.Common.{◌≡◌, ℕ, zero, suc, ◌+◌, ◌-◌, ◌<◌, ◌≤◌, Bool, List, [], ◌++◌, refl, sym, ap, ◌∙◌, subst, arith, append_assoc, append-nil, length-append, Ok, Err, Result, Option, Some, None}
+use Rattle.std.proofs.Common.{◌≡◌, ℕ, zero, suc, ◌+◌, ◌-◌, ◌<◌, ◌≤◌, Bool, List, [], ◌++◌, refl, sym, ap, ◌∙◌, subst, arith, append_assoc, append-nil, length-append, Ok, Err, Result, Option, Some, None, codes}
 use Rattle.std.specs.Io.KnownBytes.{Appends}
 use Rattle.std.proofs.lemmas.List.{take-append-le}
 use Rattle.airy_io.specs.Causes.{AppendsPrefix, Taking, Writes}
@@ -7,11 +7,10 @@ use Rattle.airy_io.proofs.Writes.{Appends-more}
 use Rattle.airy_io.proofs.Prefixes.{AppendsPrefix-more}
 use Rattle.airy_math.specs.declared.Law.{Law}
 use Rattle.airy_math.specs.declared.Shape.TheVariants.{Exact}
-use Rattle.std.specs.Prelude.{codes}
 use Rattle.tensor_text.specs.Canonical.{law_text, shape_text}
 use Rattle.tensor_text.specs.Pieces.{each_from, first_in}
-use Rattle.tensor_text.specs.declared.letters.Letter.{Letter}
-use Rattle.tensor_text.specs.declared.letters.Letter.TheVariants.{A, B, C}
+use Rattle.sparse_tensor.specs.declared.parts.Part.{Part}
+use Rattle.sparse_tensor.specs.declared.parts.Part.TheVariants.{A, B, C}
 
 cut_longer : (a b : Option (List ℕ)) (xs ys : List ℕ) → AppendsPrefix a b xs → AppendsPrefix a b (xs ++ ys)
 cut_longer a b xs ys p = (p.0, omega (arith, p.1, length-append xs ys), rw (take-append-le p.0 xs ys p.1) p.2)
@@ -43,10 +42,6 @@ each-more f a k h =
     let s : a + (k - a) ≡ k = omega arith in
     rw e (ap (λ n. each_from f a (k - a) ++ f n) s)
 
-pub each-none : (f : ℕ → List ℕ) (a : ℕ) → each_from f a (a - a) ≡ []
-unfolding each_from
-each-none f a = let e : a - a ≡ 0 = omega arith in rw e refl
-
 each-one : (f : ℕ → List ℕ) (a : ℕ) → each_from f a 1 ≡ f a
 unfolding each_from
 each-one f a = let e : a + 0 ≡ a = omega arith in rw e refl
@@ -59,14 +54,6 @@ each-parts f a n k h l =
     ap (each_from f a) e ∙ each-split f a (k - a) (1 + (a + n - (k + 1))) ∙ ap (λ w. each_from f a (k - a) ++ w)
     (ap (λ m. each_from f m (1 + (a + n - (k + 1)))) s ∙ each-split f k 1 (a + n - (k + 1)) ∙ ap (λ w. w ++ each_from f (k + 1) (a + n - (k + 1))) (each-one f k))
 
--- a piece is cut, behind whole ones
-pub each_cut : {T E : Type 0} (f : ℕ → List ℕ) (p n k : ℕ) (a b c : Taking) (e : E) → p ≤ k → k < p + n
-    → Appends a.taken b.taken (each_from f p (k - p)) → b.faults ≡ a.faults → Writes {T = T} (f k) b c (Err e) → Writes {T = T} (each_from f p n) a c (Err e)
-each_cut {T} f p n k a b c e h i whole same w =
-    let behind = each_from f (k + 1) (p + n - (k + 1)) in
-    subst (λ x. Writes {T = T} x a c (Err e)) (sym (each-parts f p n k h i))
-    (written_behind (each_from f p (k - p)) (f k ++ behind) a b c (Err e) whole same (cut_first (f k) behind b c e w))
-
 -- nothing is written
 pub nothing_written : (a : Option (List ℕ)) → Appends a a []
 nothing_written None = tt
@@ -78,21 +65,46 @@ writes_nothing a x = record { written = nothing_written a.taken; prefix = tt; ca
 pub has_written : {T E : Type 0} (text : List ℕ) (a b : Taking) (x : T) → Appends a.taken b.taken text → b.faults ≡ a.faults → Writes {E = E} text a b (Ok x)
 has_written text a b x p e = record { written = p; prefix = tt; cause = record { later = omega arith; failed = tt; kept = e } }
 
--- one more piece
-pub each_written : (f : ℕ → List ℕ) (p k : ℕ) (a b c : Option (List ℕ)) → p ≤ k → Appends a b (each_from f p (k - p)) → Appends b c (f k) → Appends a c (each_from f p (k + 1 - p))
-each_written f p k a b c h u v = rw (each-more f p k h) (Appends-more a b c (each_from f p (k - p)) (f k) u v)
-
-pub none_at : (f : ℕ → List ℕ) (a k : ℕ) → k ≡ a → each_from f a (k - a) ≡ []
-none_at f a k e = ap (λ n. each_from f a (n - a)) e ∙ each-none f a
-
-pub first_within : (letter : Letter) (j : ℕ) → first_in letter j ≤ j
+pub first_within : (letter : Part) (j : ℕ) → first_in letter j ≤ j
 first_within A j = omega arith
 first_within B j = omega arith
 first_within C j = omega arith
 
--- all pieces
-pub all_written : {T E : Type 0} (f : ℕ → List ℕ) (p n k : ℕ) (a b : Taking) (x : T) → k - p ≡ n → Appends a.taken b.taken (each_from f p (k - p)) → b.faults ≡ a.faults → Writes {E = E} (each_from f p n) a b (Ok x)
-all_written f p n k a b x e w s = has_written (each_from f p n) a b x (subst (λ c. Appends a.taken b.taken (each_from f p c)) e w) s
+-- The pieces from p up to k of those from p on, n in all, are written.
+pub record IsWriting (f : ℕ → List ℕ) (p n k : ℕ) (a b : Taking) : Type 0 where
+  pub from : p ≤ k
+  pub within : k ≤ p + n
+  pub written : Appends a.taken b.taken (each_from f p (k - p))
+  pub kept : b.faults ≡ a.faults
+
+pub writing_begins : (f : ℕ → List ℕ) (p n k : ℕ) (a : Taking) → k ≡ p → IsWriting f p n k a a
+unfolding each_from
+writing_begins f p n k a e =
+    let none : k - p ≡ 0 = omega arith in
+    record { from = omega arith; within = omega arith; written = rw none (nothing_written a.taken); kept = refl }
+
+module _ {T E : Type 0} (f : ℕ → List ℕ) (p n k : ℕ) (a b : Taking) (is : IsWriting f p n k a b) where
+  -- one more piece
+  pub writing_next : (c : Taking) (x : T) → k < p + n → Writes {E = E} (f k) b c (Ok x) → IsWriting f p n (k + 1) a c
+  writing_next c x l w = record {
+    from = omega (arith, is.from);
+    within = omega arith;
+    written = rw (each-more f p k is.from) (Appends-more a.taken b.taken c.taken (each_from f p (k - p)) (f k) is.written w.written);
+    kept = w.cause.kept ∙ is.kept;
+  }
+
+  -- a piece is cut, behind whole ones
+  pub writing_cut : (c : Taking) (e : E) → k < p + n → Writes {T = T} (f k) b c (Err e) → Writes {T = T} (each_from f p n) a c (Err e)
+  writing_cut c e l w =
+      let behind = each_from f (k + 1) (p + n - (k + 1)) in
+      subst (λ x. Writes {T = T} x a c (Err e)) (sym (each-parts f p n k is.from l))
+      (written_behind (each_from f p (k - p)) (f k ++ behind) a b c (Err e) is.written is.kept (cut_first (f k) behind b c e w))
+
+  -- all pieces
+  pub writing_ends : (x : T) → p + n ≤ k → Writes {E = E} (each_from f p n) a b (Ok x)
+  writing_ends x l =
+      let all : k - p ≡ n = omega (arith, is.from, is.within) in
+      has_written (each_from f p n) a b x (subst (λ c. Appends a.taken b.taken (each_from f p c)) all is.written) is.kept
 
 -- an exact law has nothing behind its numbers
 pub exact_line : (l : Law) (letter : Bool) → shape_text (Exact l) letter ≡ codes "shape exact" ++ law_text l ++ [] ++ codes "\n"

@@ -8,11 +8,11 @@ use Rattle.airy_math.specs.declared.Shape.{Shape}
 use Rattle.airy_math.specs.declared.Shape.TheVariants.{All, Exact, AtMost}
 use Rattle.frac128.specs.Fraction.{fraction_text}
 use Rattle.sparse_tensor.specs.Entries.{Entries, Entry}
-use Rattle.tensor_text.specs.declared.letters.Letter.{Letter}
-use Rattle.tensor_text.specs.declared.letters.Letter.TheVariants.{A, B, C}
+use Rattle.sparse_tensor.specs.declared.parts.Part.{Part}
+use Rattle.sparse_tensor.specs.declared.parts.Part.TheVariants.{A, B, C}
 
 -- the word of a letter
-abbrev pub letter_text : Letter → List ℕ
+abbrev pub letter_text : Part → List ℕ
 letter_text A = codes "A"
 letter_text B = codes "B"
 letter_text C = codes "C"
@@ -22,7 +22,7 @@ abbrev pub spaced : ℕ → List ℕ
 spaced n = codes " " ++ decimal n
 
 -- a letter, three indices and a value
-unfoldable pub place_text : Letter → Entry → List ℕ
+unfoldable pub place_text : Part → Entry → List ℕ
 place_text letter e = letter_text letter ++ spaced e.i ++ spaced e.j ++ spaced e.k ++ codes " " ++ fraction_text e.v ++ codes "\n"
 
 -- `D`, an index and a value

@@ -1,5 +1,5 @@
 -- The grammar of a text of tensors, by cases on its lines, and a line by cases on its words.
-use Rattle.std.specs.Prelude.{ℕ, suc, min, max, ℤ, List, [], ◌∷◌, Bool, true, false, ◌==◌, cond, Option, Some, None, codes}
+use Rattle.std.specs.Prelude.{ℕ, suc, ℤ, List, [], ◌∷◌, Bool, true, false, ◌==◌, cond, Option, Some, None, codes}
 use Rattle.std.specs.Option.{option_map, option_and_then}
 use Rattle.std.specs.Str.{bytes_eq}
 use Rattle.airy_math.specs.Rational.{ℚ}
@@ -7,13 +7,13 @@ use Rattle.airy_math.specs.Tensors.{is_zero}
 use Rattle.airy_math.specs.declared.Law.{Law}
 use Rattle.airy_math.specs.declared.Shape.{Shape}
 use Rattle.airy_math.specs.declared.Shape.TheVariants.{All, Exact, AtMost}
-use Rattle.sparse_tensor.specs.Entries.{Entries, no_entries, is_taken, is_given}
-use Rattle.sparse_tensor.specs.Grades.{keeps_a, keeps_b, keeps_c, keeps_d}
-use Rattle.sparse_tensor.specs.Puts.{with_a, with_b, with_c, with_d}
+use Rattle.sparse_tensor.specs.Entries.{Entries, no_entries, is_given}
+use Rattle.sparse_tensor.specs.Grades.{keeps_d}
+use Rattle.sparse_tensor.specs.Puts.{with_d, keeps_in, taken_in, with_in}
 use Rattle.tensor_text.specs.Lines.{lines, words}
 use Rattle.tensor_text.specs.Values.{index_of, dim_of, signed_of, read_value_of}
-use Rattle.tensor_text.specs.declared.letters.Letter.{Letter}
-use Rattle.tensor_text.specs.declared.letters.Letter.TheVariants.{A, B, C}
+use Rattle.sparse_tensor.specs.declared.parts.Part.{Part}
+use Rattle.sparse_tensor.specs.declared.parts.Part.TheVariants.{A, B, C}
 use Rattle.tensor_text.specs.declared.refusals.LineKind.{LineKind}
 use Rattle.tensor_text.specs.declared.refusals.LineKind.TheVariants.{Header, Dim, Word, Count, Index, Number, Grade, Twice, NoEnd, After}
 use Rattle.tensor_text.specs.declared.refusals.LineKind.TheVariants as kinds
@@ -156,25 +156,8 @@ checked kind (Some x) next = next x
 unfoldable pub stored : Bool → Bool → ℚ → Entries → Said
 stored graded taken v t = cond (is_zero v) (Stored t) (cond graded (cond taken (Fails Twice) (Stored t)) (Fails Grade))
 
--- whether an entry of A, B or C keeps the grading
-unfoldable pub keeps_in : Letter → Shape → ℕ → ℕ → ℕ → Bool
-keeps_in A shape i j k = keeps_a shape i j k
-keeps_in B shape i j k = keeps_b shape i j k
-keeps_in C shape i j k = keeps_c shape i j k
-
--- a place of A, B or C; for A and C the places (j,k) and (k,j) are one
-unfoldable pub taken_in : Letter → Entries → ℕ → ℕ → ℕ → Bool
-taken_in A t i j k = is_taken t.a i (min j k) (max j k)
-taken_in B t i j k = is_taken t.b i j k
-taken_in C t i j k = is_taken t.c i (min j k) (max j k)
-
-unfoldable pub with_in : Letter → Entries → ℕ → ℕ → ℕ → ℚ → Entries
-with_in A t i j k v = with_a t i j k v
-with_in B t i j k v = with_b t i j k v
-with_in C t i j k v = with_c t i j k v
-
 -- three indices and a value
-unfoldable pub place_line : Letter → Entries → List (List ℕ) → Said
+unfoldable pub place_line : Part → Entries → List (List ℕ) → Said
 place_line letter t more = checked Count (place_words more) λ w.
     checked Index (index_of t.dim w.i) λ i.
     checked Index (index_of t.dim w.j) λ j.
@@ -192,13 +175,13 @@ unfoldable pub end_line : List (List ℕ) → Said
 end_line [] = Ended
 end_line (word ∷ more) = Fails Count
 
-unfoldable pub letter_of : List ℕ → Option Letter
+unfoldable pub letter_of : List ℕ → Option Part
 letter_of word =
     cond (bytes_eq word (codes "A")) (Some A)
     (cond (bytes_eq word (codes "B")) (Some B)
     (cond (bytes_eq word (codes "C")) (Some C) None))
 
-unfoldable pub said_by : Option Letter → Entries → List ℕ → List (List ℕ) → Said
+unfoldable pub said_by : Option Part → Entries → List ℕ → List (List ℕ) → Said
 said_by (Some letter) t word more = place_line letter t more
 said_by None t word more =
     cond (bytes_eq word (codes "D")) (index_line t more)

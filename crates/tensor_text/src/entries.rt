@@ -1,18 +1,17 @@
 ghost use Rattle.std.specs.Prelude.{◌≡◌, ◌∷◌, ◌<◌};
 ghost use Rattle.tensor_text.specs.Lines.{words};
-ghost use Rattle.tensor_text.specs.Grammar.{stored, keeps_in, taken_in, with_in, place_line, index_line, said};
+ghost use Rattle.tensor_text.specs.Grammar.{stored, place_line, index_line, said};
 ghost use Rattle.sparse_tensor.specs.Entries.{is_given};
 ghost use Rattle.sparse_tensor.specs.Grades.{keeps_d};
-ghost use Rattle.sparse_tensor.specs.Puts.{with_d};
+ghost use Rattle.sparse_tensor.specs.Puts.{with_d, keeps_in, taken_in, with_in};
 ghost use Rattle.tensor_text.specs.Steps.{Stores, Says, err_at, refused_put};
 
-use crate::letters::Letter;
 use crate::lines::split_word;
 use crate::refusals::{LineKind, TextErr};
 use crate::values::read_value;
 use crate::words::{letter_of, place_words, read_index, two_words};
 use frac128::Frac;
-use sparse_tensor::{PutErr, Tensors};
+use sparse_tensor::{Part, PutErr, Tensors};
 
 /// Why a line stores nothing.
 #[derive(Clone, Copy, Debug, PartialEq, Eq)]
@@ -53,18 +52,14 @@ fn stored(answer: Result<(), PutErr>) -> Result<(), Refusal>
 }
 
 /// Stores an entry of A, B or C.
-fn put(tensors: &mut Tensors, letter: Letter, i: u8, j: u8, k: u8, v: Frac) -> Result<(), Refusal>
+fn put(tensors: &mut Tensors, letter: Part, i: u8, j: u8, k: u8, v: Frac) -> Result<(), Refusal>
     requires i_inside { i < tensors.old.dim }
     requires j_inside { j < tensors.old.dim }
     requires k_inside { k < tensors.old.dim }
     ensures { Stores result tensors.new
         (stored (keeps_in letter tensors.old.shape i j k) (taken_in letter tensors.old i j k) v (with_in letter tensors.old i j k v)) }
 {
-    match letter {
-        Letter::A => stored(tensors.put_a(i, j, k, v)),
-        Letter::B => stored(tensors.put_b(i, j, k, v)),
-        Letter::C => stored(tensors.put_c(i, j, k, v)),
-    }
+    stored(tensors.put(letter, i, j, k, v))
 }
 
 /// Stores an entry of D.
@@ -77,7 +72,7 @@ fn put_d(tensors: &mut Tensors, i: u8, v: Frac) -> Result<(), Refusal>
 
 /// Reads what stands behind `A`, `B` or `C`.
 #[tactic(auto, unfolding(crate::specs::Grammar::place_line, crate::specs::Grammar::checked))]
-fn read_place(tensors: &mut Tensors, letter: Letter, more: &[u8]) -> Result<(), Refusal>
+fn read_place(tensors: &mut Tensors, letter: Part, more: &[u8]) -> Result<(), Refusal>
     ensures { Stores result tensors.new (place_line letter tensors.old (words more.now)) }
 {
     let dim = tensors.dim();

@@ -6,9 +6,9 @@ ghost use Rattle.tensor_text.specs.Grammar.{only_word, two_words, place_words, l
 ghost use Rattle.tensor_text.specs.Values.{index_of, dim_of};
 ghost use Rattle.tensor_text.specs.Steps.{fields_seen};
 
-use crate::letters::Letter;
 use crate::lines::split_word;
 use crate::values::read_number;
+use sparse_tensor::Part;
 
 /// The words of three indices and a value.
 #[derive(Clone, Copy)]
@@ -74,15 +74,15 @@ fn dim_of(word: &[u8]) -> Option<u8>
 
 /// The tensor that a word names.
 #[tactic(auto, unfolding(crate::specs::Grammar::letter_of))]
-pub(crate) fn letter_of(word: &[u8]) -> Option<Letter>
+pub(crate) fn letter_of(word: &[u8]) -> Option<Part>
     ensures { result ≡ letter_of word.now }
 {
     if word == b"A".as_slice() {
-        Some(Letter::A)
+        Some(Part::A)
     } else if word == b"B".as_slice() {
-        Some(Letter::B)
+        Some(Part::B)
     } else if word == b"C".as_slice() {
-        Some(Letter::C)
+        Some(Part::C)
     } else {
         None
     }

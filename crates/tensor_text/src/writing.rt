@@ -8,10 +8,10 @@ ghost use Rattle.tensor_text.specs.Pieces.{place_piece, row_piece, plane_piece, 
 ghost use Rattle.airy_io.specs.Causes.{Writes};
 ghost use Rattle.tensor_text.specs.Grammar.{reading_of, Read};
 
-use crate::letters::Letter;
+use crate::letters::{first_in, letter_text, value_in};
 use airy_io::{Failed, LineText, Sink, write_all};
 use frac128::Frac;
-use sparse_tensor::{Law, Shape, Tensors};
+use sparse_tensor::{Law, Part, Shape, Tensors};
 
 /// Puts a space and a number at the end of a line.
 fn put_spaced(line: &mut LineText, n: u8)
@@ -38,7 +38,7 @@ fn put_value(line: &mut LineText, v: Frac)
 /// Writes the line of an entry of A, B or C.
 #[tactic(auto, unfolding(crate::specs::Canonical::place_text))]
 fn write_entry<W: Sink>(
-    letter: Letter,
+    letter: Part,
     i: u8,
     j: u8,
     k: u8,
@@ -48,7 +48,7 @@ fn write_entry<W: Sink>(
     ensures { Writes (place_text letter (record { i = i; j = j; k = k; v = v })) (W.state out.old) (W.state out.new) result }
 {
     let mut line = LineText::new();
-    line.put(letter.text());
+    line.put(letter_text(letter));
     put_spaced(&mut line, i);
     put_spaced(&mut line, j);
     put_spaced(&mut line, k);
@@ -160,7 +160,7 @@ fn write_first<W: Sink>(t: &Tensors, out: &mut W) -> Result<(), Failed>
 /// Writes the line of a place of A, B or C, where its value isn't 0.
 #[tactic(auto, unfolding(crate::specs::Pieces::place_piece))]
 fn write_place<W: Sink>(
-    letter: Letter,
+    letter: Part,
     t: &Tensors,
     i: u8,
     j: u8,
@@ -169,7 +169,7 @@ fn write_place<W: Sink>(
 ) -> Result<(), Failed>
     ensures { Writes (place_piece letter t.now i j k) (W.state out.old) (W.state out.new) result }
 {
-    let v = letter.value(t, i, j, k);
+    let v = value_in(letter, t, i, j, k);
     if v.is_zero() {
         return Ok(());
     }
@@ -177,18 +177,18 @@ fn write_place<W: Sink>(
 }
 
 /// Writes the entries of A, B or C with these first indices.
-fn write_row<W: Sink>(letter: Letter, t: &Tensors, i: u8, j: u8, out: &mut W) -> Result<(), Failed>
+fn write_row<W: Sink>(letter: Part, t: &Tensors, i: u8, j: u8, out: &mut W) -> Result<(), Failed>
     requires { j < t.now.dim }
     ensures { Writes (row_piece letter t.now i j) (W.state out.old) (W.state out.new) result }
 {
-    for k in letter.first(j)..t.dim() {
+    for k in first_in(letter, j)..t.dim() {
         write_place(letter, t, i, j, k, out)?;
     }
     Ok(())
 }
 
 /// Writes the entries of A, B or C with this first index.
-fn write_plane<W: Sink>(letter: Letter, t: &Tensors, i: u8, out: &mut W) -> Result<(), Failed>
+fn write_plane<W: Sink>(letter: Part, t: &Tensors, i: u8, out: &mut W) -> Result<(), Failed>
     ensures { Writes (plane_piece letter t.now i) (W.state out.old) (W.state out.new) result }
 {
     for j in 0..t.dim() {
@@ -198,7 +198,7 @@ fn write_plane<W: Sink>(letter: Letter, t: &Tensors, i: u8, out: &mut W) -> Resu
 }
 
 /// Writes the entries of A, B or C.
-fn write_places<W: Sink>(letter: Letter, t: &Tensors, out: &mut W) -> Result<(), Failed>
+fn write_places<W: Sink>(letter: Part, t: &Tensors, out: &mut W) -> Result<(), Failed>
     ensures { Writes (places_piece letter t.now) (W.state out.old) (W.state out.new) result }
 {
     for i in 0..t.dim() {
@@ -234,9 +234,9 @@ fn write_entries<W: Sink>(t: &Tensors, out: &mut W) -> Result<(), Failed>
     ensures { Writes (entries_text t.now) (W.state out.old) (W.state out.new) result }
 {
     t.soundness_fact();
-    write_places(Letter::A, t, out)?;
-    write_places(Letter::B, t, out)?;
-    write_places(Letter::C, t, out)?;
+    write_places(Part::A, t, out)?;
+    write_places(Part::B, t, out)?;
+    write_places(Part::C, t, out)?;
     write_indices(t, out)?;
     write_all(out, b"end\n")
 }

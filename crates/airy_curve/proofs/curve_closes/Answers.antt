@@ -1,6 +1,6 @@
 use Rattle.std.proofs.Common.{arith}
 use Rattle.sparse_tensor.specs.Entries.{looked_up}
-use Rattle.airy_curve.specs.Curve.{curve}
+use Rattle.airy_math.specs.Curves.{curve}
 use Rattle.airy_curve.proofs.ClosingLemmas.{meets}
 use Rattle.airy_curve.proofs.curve_closes.Goals as goal
 

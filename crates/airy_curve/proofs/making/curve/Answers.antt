@@ -2,7 +2,7 @@ use Rattle.std.proofs.Common.{◌≡◌, ◌+◌, suc, ℕ, subst, arith, rules}
 use Rattle.std.specs.Prelude.{IfOk, OnOk, IfErr, None}
 use Rattle.std.proofs.lemmas.Result.{IfOk-weaker}
 use Rattle.airy_math.specs.Families.{top_wk}
-use Rattle.airy_curve.specs.Curve.{curve, number_of, of_list}
+use Rattle.airy_math.specs.Curves.{curve, number_of, of_list}
 use Rattle.airy_curve.specs.Steps.{curve_refusal}
 use Rattle.airy_curve.specs.Storing.{Names, StandsFor}
 use Rattle.airy_curve.proofs.making.curve.Goals as goal

@@ -4,7 +4,7 @@ use Rattle.std.proofs.lemmas.Result.{IfOk-weaker}
 use Rattle.airy_math.specs.RationalLaws.{1ℚ}
 use Rattle.airy_math.specs.Tensors.{SameEntries}
 use Rattle.sparse_tensor.specs.Entries.{looked_up}
-use Rattle.airy_curve.specs.Curve.{curve, number_of, of_list}
+use Rattle.airy_math.specs.Curves.{curve, number_of, of_list}
 use Rattle.airy_curve.specs.Numbers.{held, Holds}
 use Rattle.airy_curve.specs.Steps.{first_answer, number_refusal, or_else, curve_refusal}
 use Rattle.airy_curve.specs.Storing.{Names}

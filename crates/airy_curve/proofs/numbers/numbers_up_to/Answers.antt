@@ -1,7 +1,7 @@
 use Rattle.std.proofs.Common.{◌≡◌, ◌+◌, ◌-◌, sym, ap, ◌∙◌, arith, rules}
 use Rattle.std.specs.Prelude.{Some, None}
 use Rattle.airy_math.specs.RationalLaws.{1ℚ}
-use Rattle.airy_curve.specs.Curve.{number_of, numbers_down}
+use Rattle.airy_math.specs.Curves.{number_of, numbers_down}
 use Rattle.airy_curve.specs.Numbers.{held}
 use Rattle.airy_curve.specs.Steps.{next_number, number_refusal, first_answer}
 use Rattle.airy_curve.proofs.StepLemmas.{answer_goes, answer_stops, answer_ends, before-held, holds-next, holds-start, number-exact, number_first, number_fine, number_refused}

@@ -1,5 +1,5 @@
 use Rattle.std.proofs.Common.{◌≡◌, ◌+◌, ◌-◌}
-use Rattle.airy_curve.specs.Curve.{number_of}
+use Rattle.airy_math.specs.Curves.{number_of}
 use Rattle.airy_curve.specs.Numbers.{held, Holds}
 use Rattle.airy_curve.specs.Steps.{number_refusal, first_answer}
 use Rattle.airy_curve.proofs.numbers.numbers_up_to.Given as goal

@@ -1,12 +1,7 @@
-use Rattle.std.proofs.Common.{rules, arith, refl, ◌≡◌}
-use Rattle.std.specs.Prelude.{ℕ, ◌∷◌, ◌<◌, ◌≤◌}
-use Rattle.std.proofs.lemmas.List.{nil_from_length}
-use Rattle.airy_index.specs.Choices.{splits_after, IsChoice, TakesNone}
-use Rattle.airy_index.proofs.ChoiceLemmas.{next_behind, next_here, no_next}
+use Rattle.std.proofs.Common.{rules, arith, refl, ◌≡◌, ◌∷◌, ◌<◌}
+use Rattle.airy_index.proofs.Words.{nil_from_length, splits_after, IsChoice, TakesNone}
+use Rattle.airy_index.proofs.ChoiceLemmas.{next_behind, next_here, no_next, below_other}
 use Rattle.airy_index.proofs.runs.+advance.Goals as goal
-
-below_other : (a b : ℕ) → a ≤ b → (a ≡ b → ⊥) → a < b
-below_other a b h n = grind arith
 
 pub returns-in_default-clause-last : goal.returns-in_default-clause-last
 unfolding splits_after

@@ -1,8 +1,5 @@
-use Rattle.std.proofs.Common.{rules, refl, ◌≡◌}
-use Rattle.std.specs.Prelude.{◌∷◌}
-use Rattle.std.proofs.lemmas.List.{nil_from_length}
-use Rattle.airy_math.specs.Splits.{runs}
-use Rattle.airy_index.specs.Choices.{TakesNone}
+use Rattle.std.proofs.Common.{rules, refl, ◌≡◌, ◌∷◌}
+use Rattle.airy_index.proofs.Words.{nil_from_length, runs, TakesNone}
 use Rattle.airy_index.proofs.RunLemmas.{reads_first, reads_same, reads_other, reads_all, reads_none}
 use Rattle.airy_index.proofs.runs.runs_of.Goals as goal
 use Rattle.airy_index.proofs.runs.runs_of.Goals.{then-x-run, else-x-run}

@@ -1,7 +1,5 @@
-use Rattle.std.proofs.Common.{ℕ, ◌<◌, rules, arith, refl, sym, ap, subst, ◌≡◌, ◌∙◌, ◌+◌, length, drop}
-use Rattle.std.specs.Prelude.{[], ◌∷◌, List, slice_index_or}
-use Rattle.std.proofs.lemmas.List.{drop_more, nil_from_length}
-use Rattle.airy_index.specs.declared.runs.Run.{Run}
+use Rattle.std.proofs.Common.{ℕ, ◌<◌, rules, arith, refl, sym, ap, subst, ◌≡◌, ◌∙◌, ◌+◌, length, drop, [], ◌∷◌, List, slice_index_or}
+use Rattle.airy_index.proofs.Words.{drop_more, nil_from_length, Run}
 use Rattle.airy_index.proofs.ChosenLemmas.{IsBuilt, Fits, built_none, built_more, next_fits, built_all}
 use Rattle.airy_index.proofs.splits.chosen.Goals as goal
 

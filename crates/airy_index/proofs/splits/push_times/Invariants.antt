@@ -1,5 +1,4 @@
-use Rattle.std.proofs.Common.{◌≡◌, ◌≤◌, ◌++◌}
-use lib.ListN.{replicate}
+use Rattle.std.proofs.Common.{◌≡◌, ◌≤◌, ◌++◌, replicate}
 use Rattle.airy_index.proofs.splits.push_times.Given as goal
 
 abbrev pub invariant-loop : goal.invariant-loop

@@ -1,6 +1,5 @@
-use Rattle.std.proofs.Common.{rules, ◌≡◌}
-use Rattle.std.specs.Prelude.{string_bytes}
-use Rattle.tensor_text.specs.Canonical.{canonical_text}
+use Rattle.std.proofs.Common.{rules, ◌≡◌, string_bytes}
+use Rattle.airy_json.proofs.Common.{canonical_text}
 use Rattle.airy_json.proofs.KindLaw.{kind-canonical}
 use Rattle.airy_json.proofs.canonical.canonical_text.Goals as goal
 

@@ -1,7 +1,6 @@
 use Rattle.std.proofs.Common.{List, subst}
-use Rattle.airy_math.specs.Keys.{Key}
+use Rattle.airy_json.proofs.Common.{Key, kind_seen, AreCells}
 use Rattle.serde_json.specs.View.{items_view}
-use Rattle.airy_json.specs.Steps.{kind_seen, AreCells}
 use Rattle.airy_json.proofs.CellLemmas.{given}
 use Rattle.airy_json.proofs.reading.read_table_of.Goals as goal
 

@@ -1,58 +1,23 @@
-use Rattle.std.proofs.Common.{ℕ, refl, sym, ap, subst, ◌∙◌, get_or, arith}
-use Rattle.airy_math.specs.Planned.{planned, IsPlanned}
-use Rattle.airy_math.specs.Ranks.{ListsPlanned, place_of}
-use Rattle.airy_math.specs.RationalLaws.{0ℚ}
-use Rattle.amp_plan.specs.Plans.{Planning, tensors_of, keys_of, key_at}
-use Rattle.airy_json.specs.Verifying.{verified}
-use Rattle.airy_json.specs.VerifySteps.{given_value, end_after}
-use Rattle.airy_json.proofs.GivenLemmas.{given_is, index_is}
-use Rattle.airy_json.proofs.StepLemmas.{key_decides, no_keys}
+use Rattle.std.proofs.Common.{sym, ap, ◌∙◌, arith}
+use Rattle.airy_json.proofs.Common.{ℚ, Key, Planning, tensors_of, keys_of, number_at, listed, every, given_to, said, verified}
+use Rattle.amp_plan.specs.Plans.{rank_at}
+use Rattle.amp_terms.specs.Outcomes.{value_in}
+use Rattle.constraint_check.specs.Pivots.{numbers_shown, failing_from}
+use Rattle.constraint_check.proofs.StepLemmas.{no_keys}
+use Rattle.airy_json.proofs.GivenLemmas.{has_listed, said_failed}
 use Rattle.airy_json.proofs.verifying.first_failure.Goals as goal
 
-pub loop-rank-init : goal.loop-rank-init
-unfolding verified keys_of
-loop-rank-init c = refl
+pub first_failing-requires-clause-shows : goal.first_failing-requires-clause-shows
+first_failing-requires-clause-shows c = record { within = λ r h. omega (arith, h, c.requires); values = λ r h. has_listed c.args.values.now r (omega (arith, h, c.requires)) }
 
-pub verify_pivots-requires-clause-planned : goal.verify_pivots-requires-clause-planned
-unfolding keys_of key_at
-verify_pivots-requires-clause-planned c =
-    let p : Planning = c.args.plan.now in
-    subst (IsPlanned (tensors_of p) p.bound) (sym c.key-key.ensures) ((c.planned_once.ensures (tensors_of p) p.bound).only c.loop-rank.rank (omega (arith, c.loop-rank-test.true, c.len-rank-end.ensures)))
+pub returns-in-None : goal.returns-in-None
+unfolding verified said failing_from numbers_shown number_at given_to value_in rank_at keys_of listed
+returns-in-None c =
+    let p : Planning = c.args.plan.now in let F : Key → ℚ = given_to (tensors_of p) p.bound c.args.values.now in
+    sym (ap (said F) (c.in-None.ensures ∙ no_keys (tensors_of p) F every (keys_of p) c.len.result (omega (arith, c.len.ensures))))
 
-pub verify_pivots-requires-clause-value : goal.verify_pivots-requires-clause-value
-unfolding keys_of key_at
-verify_pivots-requires-clause-value c =
-    let p : Planning = c.args.plan.now in
-    let r : ℕ = c.loop-rank.rank in
-    let law : ListsPlanned (tensors_of p) p.bound = c.planned_once.ensures (tensors_of p) p.bound in
-    let key_planned : IsPlanned (tensors_of p) p.bound c.key-key.result =
-    subst (IsPlanned (tensors_of p) p.bound) (sym c.key-key.ensures) (law.only r (omega (arith, c.loop-rank-test.true, c.len-rank-end.ensures))) in
-    c.index-values-rank.is ∙ index_is c.args.values.now r _ (omega (arith, c.loop-rank-test.true, c.len-rank-end.ensures, c.requires))
-    ∙ ap (λ n. get_or c.args.values.now n 0ℚ) (sym (law.once r (omega (arith, c.loop-rank-test.true, c.len-rank-end.ensures))) ∙ ap (λ k. place_of k (planned (tensors_of p) p.bound)) (sym c.key-key.ensures))
-    ∙ sym (given_is (tensors_of p) p.bound c.args.values.now c.requires c.key-key.result key_planned)
-
-pub returns-in-Over : goal.returns-in-Over
-unfolding end_after key_at
-returns-in-Over c =
-    let p : Planning = c.args.plan.now in
-    sym (sym c.loop-rank.invariant
-    ∙ key_decides (tensors_of p) (given_value p c.args.values.now) (keys_of p) c.loop-rank.rank (omega (arith, c.loop-rank-test.true, c.len-rank-end.ensures)) c.key-key.result c.key-key.ensures c.index-values-rank.result c.verify_pivots.result c.verify_pivots.ensures _ c.in-Over.is)
-
-pub returns-in-Differ : goal.returns-in-Differ
-unfolding end_after key_at
-returns-in-Differ c =
-    let p : Planning = c.args.plan.now in
-    sym (sym c.loop-rank.invariant
-    ∙ key_decides (tensors_of p) (given_value p c.args.values.now) (keys_of p) c.loop-rank.rank (omega (arith, c.loop-rank-test.true, c.len-rank-end.ensures)) c.key-key.result c.key-key.ensures c.index-values-rank.result c.verify_pivots.result c.verify_pivots.ensures _ c.in-Differ.is)
-
-pub loop-rank-preserved : goal.loop-rank-preserved
-unfolding end_after key_at
-loop-rank-preserved c =
-    let p : Planning = c.args.plan.now in
-    sym (key_decides (tensors_of p) (given_value p c.args.values.now) (keys_of p) c.loop-rank.rank (omega (arith, c.loop-rank-test.true, c.len-rank-end.ensures)) c.key-key.result c.key-key.ensures c.index-values-rank.result c.verify_pivots.result c.verify_pivots.ensures _ c.in-Agree.is)
-    ∙ c.loop-rank.invariant
-
-pub returns : goal.returns
-returns c =
-    let p : Planning = c.args.plan.now in
-    sym (sym c.loop-rank.invariant ∙ no_keys (tensors_of p) (given_value p c.args.values.now) (keys_of p) c.loop-rank.rank (omega (arith, c.loop-rank-test.false, c.len-rank-end.ensures)))
+pub returns-in-Some : goal.returns-in-Some
+unfolding verified failing_from numbers_shown number_at given_to value_in rank_at keys_of listed
+returns-in-Some c =
+    let p : Planning = c.args.plan.now in let F : Key → ℚ = given_to (tensors_of p) p.bound c.args.values.now in let f = c.in-Some.ensures in
+    sym (ap (said F) (f.passed ∙ f.fails) ∙ said_failed F c.failed.result c.in-Some.failure c.failed.ensures f.value)

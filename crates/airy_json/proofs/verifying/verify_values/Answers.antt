@@ -1,8 +1,6 @@
 use Rattle.std.proofs.Common.{sym, subst}
-use Rattle.amp_plan.specs.Plans.{Planning, tensors_of, keys_of}
-use Rattle.sparse_tensor.specs.Entries.{Entries, looked_up}
+use Rattle.airy_json.proofs.Common.{Planning, tensors_of, keys_of, Entries, looked_up, Says}
 use Rattle.sparse_tensor.specs.Grades.{AreSound}
-use Rattle.airy_json.specs.Verified.{Says}
 use Rattle.airy_json.proofs.verifying.verify_values.Goals as goal
 
 pub returns : goal.returns

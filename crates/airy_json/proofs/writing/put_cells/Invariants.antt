@@ -1,9 +1,6 @@
-use Rattle.std.proofs.Common.{◌≡◌, ◌++◌, ℕ, ◌<◌, false, drop}
-use Rattle.std.specs.Prelude.{string_bytes, nat_lt}
+use Rattle.std.proofs.Common.{◌≡◌, ◌++◌, ℕ, ◌<◌, false, drop, string_bytes, nat_lt}
 use Rattle.serde_json.specs.Written.{items_text}
-use Rattle.airy_math.specs.Obtained.{IsInRange}
-use Rattle.amp_plan.specs.Plans.{keys_of}
-use Rattle.airy_json.specs.Document.{cells_data, value_in, values_in}
+use Rattle.airy_json.proofs.Common.{IsInRange, keys_of, cells_data, value_in, values_in}
 use Rattle.airy_json.proofs.writing.put_cells.Given as goal
 
 abbrev pub invariant-loop-rank : goal.invariant-loop-rank

@@ -1,5 +1,4 @@
-use Rattle.std.proofs.Common.{rules, ◌≡◌, ◌++◌, OnOk, length, get_or, arith, ◌≤◌}
-use Rattle.std.specs.Prelude.{string_bytes, codes, decimal}
+use Rattle.std.proofs.Common.{rules, ◌≡◌, ◌++◌, OnOk, length, get_or, arith, ◌≤◌, string_bytes, codes, decimal}
 use Rattle.airy_json.proofs.PieceLemmas.{on_ok, next_item, last_item, next_index, no_index}
 use Rattle.airy_json.proofs.writing.put_indices.Goals as goal
 

@@ -2,7 +2,7 @@ use Rattle.std.proofs.Common.{◌≡◌}
 use Rattle.sparse_tensor.specs.Entries.{looked_up}
 use Rattle.airy_relations.specs.Places.{from_to}
 use Rattle.airy_relations.specs.Verdicts.{first_over, verdict_at}
-use Rattle.airy_relations.specs.Walks.{place, over_l, over_l}
+use Rattle.airy_relations.specs.Walks.{place, over_l}
 use Rattle.airy_relations.proofs.checks.check_l.Given as goal
 
 abbrev pub invariant-loop-l : goal.invariant-loop-l

@@ -1,7 +1,6 @@
-use Rattle.std.proofs.Common.{◌≡◌, ◌+◌, ◌<◌, List, [], ◌∷◌, ◌++◌, rules, arith, map, string_bytes, length, get_or, refl, sym, ap, ◌∙◌, subst, Some}
-use Rattle.std.specs.Prelude.{slice_get, option_map}
+use Rattle.std.proofs.Common.{◌≡◌, ◌+◌, ◌<◌, List, [], ◌∷◌, ◌++◌, rules, arith, map, string_bytes, length, get_or, refl, sym, ap, ◌∙◌, subst, Some, slice_get, option_map}
+use Rattle.run_reports.proofs.Names.{plan_of}
 use Rattle.std.proofs.lemmas.Option.{slice_get-map, slice_get_read}
-use Rattle.cell_words.specs.Seats.{plan_of}
 use Rattle.ask_seats.specs.Replies.{Reply}
 use Rattle.airy_wait.specs.Asked.{keys_asked}
 use Rattle.airy_wait.specs.Turns.{plan_replies, told_to}

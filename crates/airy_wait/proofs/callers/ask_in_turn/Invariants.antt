@@ -1,6 +1,5 @@
-use Rattle.std.proofs.Common.{◌-◌, ◌≤◌, length}
-use Rattle.std.specs.Prelude.{vec_capacity}
-use Rattle.cell_words.specs.Seats.{IsSeatOf, plan_of}
+use Rattle.std.proofs.Common.{◌-◌, ◌≤◌, length, vec_capacity}
+use Rattle.run_reports.proofs.Names.{IsSeatOf, plan_of}
 use Rattle.airy_wait.specs.Asked.{keys_asked}
 use Rattle.airy_wait.specs.Turns.{plan_replies, told_to}
 use Rattle.airy_wait.proofs.TurnLemmas.{IsGoing}

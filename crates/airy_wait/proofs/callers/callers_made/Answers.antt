@@ -1,6 +1,5 @@
-use Rattle.std.proofs.Common.{◌≡◌, ◌+◌, arith, length, sym, ap, ◌∙◌, subst}
-use Rattle.std.specs.Prelude.{vec_len}
-use Rattle.fill_crew.specs.Crews.{IsIdle, EachAt}
+use Rattle.std.proofs.Common.{◌≡◌, ◌+◌, arith, length, sym, ap, ◌∙◌, subst, vec_len}
+use Rattle.run_reports.proofs.Names.{IsIdle, EachAt}
 use Rattle.airy_wait.specs.declared.callers.Caller.{Caller}
 use Rattle.airy_wait.specs.Turns.{IsFresh}
 use Rattle.airy_wait.proofs.SeatLemmas.{each_before, each_last, each_more}

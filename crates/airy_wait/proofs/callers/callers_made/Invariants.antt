@@ -1,6 +1,5 @@
-use Rattle.std.proofs.Common.{◌≡◌, ◌+◌, ◌≤◌, length}
-use Rattle.std.specs.Prelude.{vec_len}
-use Rattle.fill_crew.specs.Crews.{IsIdle, EachAt}
+use Rattle.std.proofs.Common.{◌≡◌, ◌+◌, ◌≤◌, length, vec_len}
+use Rattle.run_reports.proofs.Names.{IsIdle, EachAt}
 use Rattle.airy_wait.specs.Turns.{IsFresh}
 use Rattle.airy_wait.proofs.callers.callers_made.Given as goal
 

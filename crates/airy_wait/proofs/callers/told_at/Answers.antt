@@ -1,5 +1,4 @@
-use Rattle.std.proofs.Common.{◌≡◌, ◌/◌, ◌%◌, ◌<◌, rules, arith, length, get_or, refl}
-use Rattle.std.specs.Prelude.{slice_index_or}
+use Rattle.std.proofs.Common.{◌≡◌, ◌/◌, ◌%◌, ◌<◌, rules, arith, length, get_or, refl, slice_index_or}
 use Rattle.std.proofs.lemmas.Option.{slice_get_read}
 use Rattle.airy_wait.proofs.TurnLemmas.{turn_told, turn_within}
 use Rattle.airy_wait.proofs.callers.told_at.Goals as goal

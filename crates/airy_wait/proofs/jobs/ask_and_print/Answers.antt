@@ -1,6 +1,6 @@
 use Rattle.std.proofs.Common.{◌≡◌, length, map, string_bytes, ◌∙◌}
+use Rattle.run_reports.proofs.Names.{plan_of}
 use Rattle.std.proofs.lemmas.List.{length-map}
-use Rattle.cell_words.specs.Seats.{plan_of}
 use Rattle.ask_seats.specs.Talks.{told_of}
 use Rattle.airy_wait.specs.Asked.{keys_asked}
 use Rattle.airy_wait.specs.Turns.{plan_replies}

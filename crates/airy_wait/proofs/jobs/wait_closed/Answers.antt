@@ -1,9 +1,5 @@
-use Rattle.std.proofs.Common.{◌∙◌, ap, subst}
-use Rattle.airy_math.specs.Relations.{Close}
-use Rattle.sparse_tensor.specs.Entries.{looked_up}
-use Rattle.airy_relations.specs.Verdicts.{verdict}
-use Rattle.std.proofs.Common.{refl}
-use Rattle.run_reports.specs.Structures.{text_structure}
+use Rattle.std.proofs.Common.{◌∙◌, ap, subst, refl}
+use Rattle.run_reports.proofs.Names.{Close, looked_up, verdict, text_structure}
 use Rattle.run_reports.proofs.TextLemmas.{are_closed, text_sound}
 use Rattle.session_law.proofs.SessionLemmas.{SessionLaws, text-made, text-planned}
 use Rattle.airy_wait.specs.Asked.{keys_asked}

@@ -1,6 +1,5 @@
 use Rattle.std.proofs.Common.{◌≡◌, rules, true, false, refl}
-use Rattle.command_words.specs.Bounds.{is_bound}
-use Rattle.run_reports.specs.StructureTables.{structure_of}
+use Rattle.run_reports.proofs.Names.{is_bound, structure_of}
 use Rattle.run_reports.proofs.StatusLemmas.{some_bound}
 use Rattle.run_reports.proofs.TableHeadline.{family_sound}
 use Rattle.session_law.proofs.SessionLemmas.{SessionLaws}

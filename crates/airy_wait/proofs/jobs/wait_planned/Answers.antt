@@ -1,6 +1,5 @@
 use Rattle.std.proofs.Common.{inl, subst}
-use Rattle.amp_plan.specs.Plans.{Planning}
-use Rattle.run_reports.specs.Report.{Ends}
+use Rattle.run_reports.proofs.Names.{Planning, Ends}
 use Rattle.session_law.specs.Sessions.{answered}
 use Rattle.airy_wait.specs.Asked.{keys_asked}
 use Rattle.airy_wait.specs.Turns.{plan_replies}

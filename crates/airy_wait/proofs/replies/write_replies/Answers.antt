@@ -3,8 +3,9 @@ use Rattle.std.proofs.KnownBytes.{Appends-trans}
 use Rattle.std.proofs.lemmas.Result.{err_from_is_err_and}
 use Rattle.ask_seats.specs.Replies.{lines_text}
 use Rattle.airy_wait.specs.Waits.{told_reply}
-use Rattle.airy_wait.proofs.LineLemmas.{lines-cut, lines-done, lines-more, nothing_taken}
+use Rattle.airy_wait.proofs.LineLemmas.{lines-cut, lines-done, lines-more}
 use Rattle.airy_wait.proofs.replies.write_replies.Goals as goal
+use Rattle.run_reports.proofs.RowLemmas.{nothing_taken}
 
 pub loop-k-init : goal.loop-k-init
 unfolding lines_text

@@ -1,6 +1,5 @@
 use Rattle.std.proofs.Common.{◌≡◌}
-use Rattle.cell_words.specs.Seats.{done_of}
-use Rattle.fill_crew.specs.Crews.{HasWorked}
+use Rattle.run_reports.proofs.Names.{done_of, HasWorked}
 use Rattle.airy_wait.proofs.rounds.fill_in_turn.Given as goal
 
 abbrev pub invariant-loop : goal.invariant-loop

@@ -1,7 +1,7 @@
 use Rattle.std.proofs.Common.{rules, ◌<◌, ◌≤◌, inl, arith, refl, sym, ap, subst}
+use Rattle.run_reports.proofs.Names.{cells}
 use mathlib.Core.Logic.{dite}
 use native.Mathlib.Decide.{ℕ_discrete}
-use Rattle.cell_words.specs.Layout.{cells}
 use Rattle.cell_words.specs.declared.view.Standing.{Standing}
 use Rattle.ask_seats.specs.Counts.{Knows}
 use Rattle.fill_crew.proofs.CrewLemmas.{worked_none}

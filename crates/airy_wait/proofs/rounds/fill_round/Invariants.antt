@@ -1,6 +1,4 @@
-use Rattle.cell_words.specs.Layout.{cells}
-use Rattle.cell_words.specs.Seats.{plan_of}
-use Rattle.fill_crew.specs.Crews.{HasWorked}
+use Rattle.run_reports.proofs.Names.{cells, plan_of, HasWorked}
 use Rattle.airy_wait.specs.Waits.{FillsInOrder, KnowsBelow}
 use Rattle.airy_wait.proofs.rounds.fill_round.Given as goal
 

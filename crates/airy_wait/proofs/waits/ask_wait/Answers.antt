@@ -1,13 +1,9 @@
 use Rattle.std.proofs.Common.{◌≡◌, ℕ, ◌<◌, arith, refl, sym, ap, ◌∙◌, subst}
-use Rattle.airy_math.specs.Keys.{Key}
-use Rattle.airy_math.specs.Ranks.{ListsPlanned}
+use Rattle.run_reports.proofs.Names.{Key, ListsPlanned, Planning, tensors_of, place_in, cells, outcome_at}
 use Rattle.airy_index.specs.Fields.{IsKey}
-use Rattle.amp_plan.specs.Plans.{Planning, tensors_of}
-use Rattle.amp_plan.specs.Places.{place_in}
 use Rattle.amp_plan.specs.declared.place.Place.TheVariants as place
 use Rattle.amp_plan.proofs.PlaceLemmas.{rank_within}
 use Rattle.amp_terms.proofs.BlockedLemmas.{blocked-below}
-use Rattle.cell_words.specs.Layout.{cells, outcome_at}
 use Rattle.ask_seats.specs.Counts.{Knows}
 use Rattle.ask_seats.specs.Sessions.{told_at, is_rank}
 use Rattle.ask_seats.specs.Asks.{reply_at}

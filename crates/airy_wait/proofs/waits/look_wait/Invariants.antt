@@ -1,5 +1,5 @@
 use Rattle.std.proofs.Common.{◌≡◌, ℕ}
-use Rattle.cell_words.specs.Seats.{IsSeatOf, standing_of}
+use Rattle.run_reports.proofs.Names.{IsSeatOf, standing_of}
 use Rattle.ask_seats.specs.Counts.{Knows}
 use Rattle.airy_wait.proofs.waits.look_wait.Given as goal
 

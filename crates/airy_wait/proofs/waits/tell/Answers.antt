@@ -1,7 +1,6 @@
 use Rattle.std.proofs.Common.{sym, ap, ◌∙◌}
-use Rattle.sparse_tensor.specs.Entries.{looked_up}
-use Rattle.amp_plan.specs.Plans.{tensors_of, keys_of, key_at}
-use Rattle.amp_plan.specs.Places.{letter_power}
+use Rattle.run_reports.proofs.Names.{looked_up, tensors_of, keys_of, letter_power}
+use Rattle.amp_plan.specs.Plans.{key_at}
 use Rattle.ask_seats.specs.Replies.{Value, Blocked}
 use Rattle.ask_seats.specs.Sessions.{outcome_reply}
 use Rattle.airy_wait.specs.Waits.{told_reply}

@@ -1,5 +1,5 @@
-use Rattle.std.specs.Prelude.{codes}
-use Rattle.sparse_tensor.specs.Entries.{looked_up}
+use Rattle.std.proofs.Common.{codes}
+use Rattle.run_reports.proofs.Names.{looked_up}
 use Rattle.run_reports.proofs.FormLemmas.{writes_then}
 use Rattle.airymore.specs.Brackets.{numbers_text}
 use Rattle.airymore.specs.Places.{places}

@@ -1,8 +1,5 @@
-use Rattle.std.proofs.Common.{rules, ◌≡◌, ◌++◌, ◌∙◌, subst, sym}
-use Rattle.std.specs.Prelude.{codes, IsTrue, false}
-use Rattle.airy_io.specs.Causes.{Writes}
-use Rattle.airy_math.specs.RationalLaws.{0ℚ}
-use Rattle.frac128.specs.Fraction.{fraction_text}
+use Rattle.std.proofs.Common.{rules, ◌≡◌, ◌++◌, ◌∙◌, subst, sym, codes, IsTrue, false}
+use Rattle.run_reports.proofs.Names.{Writes, 0ℚ, fraction_text}
 use Rattle.run_reports.proofs.RowLemmas.{row-none}
 use Rattle.airymore.specs.Brackets.{place_text}
 use Rattle.airymore.proofs.BracketLemmas.{text_of_zero, text_of_other}

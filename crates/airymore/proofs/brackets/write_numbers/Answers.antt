@@ -1,8 +1,7 @@
-use Rattle.std.proofs.Common.{◌≡◌, ◌∷◌, ◌++◌, ◌∙◌, ap, sym, subst, rules}
-use Rattle.std.specs.Prelude.{None, IfSome}
+use Rattle.std.proofs.Common.{◌≡◌, ◌∷◌, ◌++◌, ◌∙◌, ap, sym, subst, rules, None, IfSome}
+use Rattle.run_reports.proofs.Names.{looked_up}
 use Rattle.std.proofs.KnownBytes.{Appends-trans}
 use Rattle.std.proofs.lemmas.Result.{err_from_is_err_and}
-use Rattle.sparse_tensor.specs.Entries.{looked_up}
 use Rattle.airymore.specs.Brackets.{first_over, numbers_text}
 use Rattle.airymore.specs.Places.{from, from_any, IsPlace}
 use Rattle.airymore.proofs.BracketLemmas.{from_none, from_some, over_none, shorter, text-more, text_cut, text_done, text_end}

@@ -1,7 +1,6 @@
-use Rattle.std.proofs.Common.{◌≡◌, ℕ, List, ◌++◌, length}
-use Rattle.std.specs.Prelude.{IfSome, None}
+use Rattle.std.proofs.Common.{◌≡◌, ℕ, List, ◌++◌, length, IfSome, None}
+use Rattle.run_reports.proofs.Names.{looked_up}
 use Rattle.std.specs.Io.KnownBytes.{Appends}
-use Rattle.sparse_tensor.specs.Entries.{looked_up}
 use Rattle.airymore.specs.Brackets.{first_over, numbers_text}
 use Rattle.airymore.specs.Places.{from_any, places, IsPlace}
 use Rattle.airymore.proofs.brackets.write_numbers.Given as goal

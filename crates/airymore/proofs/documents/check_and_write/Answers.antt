@@ -1,9 +1,8 @@
 use Rattle.std.proofs.Common.{◌∙◌, ap, length, List, Option, arith, inl, refl}
+use Rattle.run_reports.proofs.Names.{Outcome, Overflow, Orders, checked_report}
 use Rattle.amp_plan.specs.Plans.{key_at}
-use Rattle.amp_terms.specs.declared.Outcome.{Outcome}
-use Rattle.series_law.specs.Check.{NotValue, Overflow, Orders, Solution}
+use Rattle.series_law.specs.Check.{NotValue, Solution}
 use Rattle.constraint_check.specs.Ends.{Tells}
-use Rattle.run_reports.specs.Tables.{checked_report}
 use Rattle.run_reports.proofs.ReportLemmas.{cells_at, full-length}
 use Rattle.airymore.proofs.DocumentLemmas.{document_refused, document_whole, values_there}
 use Rattle.airymore.proofs.documents.check_and_write.Goals as goal

@@ -1,5 +1,5 @@
 use Rattle.std.proofs.Common.{◌≡◌, rules, inl, inr, true, false, refl}
-use Rattle.command_words.specs.Bounds.{is_bound}
+use Rattle.run_reports.proofs.Names.{is_bound}
 use Rattle.airy_json.specs.Reading.{named}
 use Rattle.run_reports.proofs.TableHeadline.{family_sound}
 use Rattle.airymore.specs.Documents.{structure_of_kind}

@@ -1,7 +1,5 @@
 use Rattle.std.proofs.Common.{◌∙◌, ap, subst, sym}
-use Rattle.amp_plan.specs.Plans.{Planning, tensors_of}
-use Rattle.amp_terms.specs.Tables.{full_table}
-use Rattle.run_reports.specs.Report.{EndsOrWants}
+use Rattle.run_reports.proofs.Names.{Planning, tensors_of, full_table, EndsOrWants}
 use Rattle.airymore.specs.Documents.{plan_document}
 use Rattle.airymore.proofs.documents.fill_and_write.Goals as goal
 

@@ -1,7 +1,6 @@
-use Rattle.std.proofs.Common.{subst, sym, ap, ◌∙◌}
-use Rattle.std.specs.Prelude.{List, ℕ}
+use Rattle.std.proofs.Common.{subst, sym, ap, ◌∙◌, List, ℕ}
+use Rattle.run_reports.proofs.Names.{EndsOrWants}
 use Rattle.airy_json.specs.Reading.{named}
-use Rattle.run_reports.specs.Report.{EndsOrWants}
 use Rattle.airymore.specs.Documents.{structure_of_kind, stored_document}
 use Rattle.airymore.proofs.DocumentLemmas.{stood_document, document_error}
 use Rattle.airymore.proofs.documents.made_document.Goals as goal

@@ -1,7 +1,6 @@
-use Rattle.std.proofs.Common.{◌∙◌, subst}
-use Rattle.std.specs.Prelude.{List, ℕ}
+use Rattle.std.proofs.Common.{◌∙◌, subst, List, ℕ}
+use Rattle.run_reports.proofs.Names.{EndsOrWants}
 use Rattle.airy_json.specs.Reading.{kind_text}
-use Rattle.run_reports.specs.Report.{EndsOrWants}
 use Rattle.airymore.specs.Documents.{stored_document}
 use Rattle.airymore.proofs.documents.write_text.Goals as goal
 

@@ -1,8 +1,5 @@
 use Rattle.std.proofs.Common.{◌∙◌, ap, inl, subst, sym}
-use Rattle.airy_math.specs.Relations.{Close}
-use Rattle.amp_plan.specs.Plans.{Planning, tensors_of}
-use Rattle.amp_terms.specs.Tables.{full_table}
-use Rattle.run_reports.specs.Report.{Ends}
+use Rattle.run_reports.proofs.Names.{Close, Planning, tensors_of, full_table, Ends}
 use Rattle.airymore.specs.Quick.{plan_quick}
 use Rattle.airymore.proofs.quick.fill_and_print.Goals as goal
 

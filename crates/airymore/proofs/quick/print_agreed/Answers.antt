@@ -1,5 +1,5 @@
 use Rattle.std.proofs.Common.{◌∙◌, ap, length, List, Option}
-use Rattle.amp_terms.specs.declared.Outcome.{Outcome}
+use Rattle.run_reports.proofs.Names.{Outcome}
 use Rattle.run_reports.proofs.ReportLemmas.{full-length}
 use Rattle.airymore.proofs.QuickLemmas.{found_value, found_whole}
 use Rattle.airymore.proofs.quick.print_agreed.Goals as goal

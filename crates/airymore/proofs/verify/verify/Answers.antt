@@ -1,10 +1,6 @@
-use Rattle.std.proofs.Common.{◌∙◌, ap, length, subst, sym}
-use Rattle.std.specs.Prelude.{List}
-use Rattle.airy_math.specs.Rational.{ℚ}
-use Rattle.sparse_tensor.specs.Grades.{AreSound}
-use Rattle.amp_plan.specs.Plans.{tensors_of}
+use Rattle.std.proofs.Common.{◌∙◌, ap, length, subst, sym, List}
+use Rattle.run_reports.proofs.Names.{ℚ, AreSound, tensors_of, Ends}
 use Rattle.airy_json.specs.Verifying.{verified}
-use Rattle.run_reports.specs.Report.{Ends}
 use Rattle.airymore.specs.Verify.{verified_report}
 use Rattle.airymore.proofs.VerifyLemmas.{VerifyLaws, given_ends, given_long, refusal_ends}
 use Rattle.airymore.proofs.verify.verify.Goals as goal

@@ -1,5 +1,5 @@
 use Rattle.std.proofs.Common.{sym, ap, subst, ◌∙◌}
-use Rattle.run_reports.specs.Report.{Ends}
+use Rattle.run_reports.proofs.Names.{Ends}
 use Rattle.airymore.specs.Verify.{verified_report}
 use Rattle.airymore.proofs.verify.verify_given.Goals as goal
 

@@ -1,5 +1,5 @@
 use Rattle.std.proofs.Common.{◌≡◌, rules, true, false}
-use Rattle.run_reports.specs.StructureTables.{is_bound}
+use Rattle.run_reports.proofs.Names.{is_bound}
 use Rattle.airyrun.proofs.BulkLemmas.{BulkLaws, beyond_bulk, bulk_ends, error_bulk}
 use Rattle.airyrun.proofs.bulks.bulk.Goals as goal
 

@@ -1,7 +1,5 @@
 use Rattle.std.proofs.Common.{◌∙◌, ap, subst}
-use Rattle.sparse_tensor.specs.Entries.{looked_up}
-use Rattle.airy_relations.specs.Verdicts.{verdict}
-use Rattle.run_reports.specs.Relations.{IsVerdict}
+use Rattle.run_reports.proofs.Names.{looked_up, verdict, IsVerdict}
 use Rattle.run_reports.proofs.RelationLemmas.{verdict_tells}
 use Rattle.airyrun.proofs.BulkLemmas.{fails_summary, summary_ends}
 use Rattle.airyrun.proofs.bulks.print_bulk.Goals as goal

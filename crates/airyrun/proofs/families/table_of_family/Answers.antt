@@ -1,5 +1,5 @@
 use Rattle.std.proofs.Common.{◌≡◌, rules, inl, inr, false}
-use Rattle.run_reports.specs.StructureTables.{is_bound, structure_of}
+use Rattle.run_reports.proofs.Names.{is_bound, structure_of}
 use Rattle.run_reports.proofs.StructureLemmas.{refused_bound}
 use Rattle.airyrun.proofs.families.table_of_family.Goals as goal
 

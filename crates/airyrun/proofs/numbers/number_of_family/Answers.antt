@@ -1,8 +1,6 @@
 use Rattle.std.proofs.Common.{◌≡◌, rules, true, false, subst}
-use Rattle.airy_io.specs.Causes.{Taking}
+use Rattle.run_reports.proofs.Names.{Taking, is_bound, structure_of, EndsBy}
 use Rattle.airyrun.specs.Numbers.{IsQuotient, euler_of}
-use Rattle.run_reports.specs.StructureTables.{is_bound, structure_of}
-use Rattle.run_reports.specs.Ends.{EndsBy}
 use Rattle.airyrun.specs.Valued.{IsValued}
 use Rattle.airyrun.proofs.NumberLemmas.{beyond_number, made_number, unmade_number}
 use Rattle.airyrun.proofs.numbers.number_of_family.Goals as goal

@@ -1,5 +1,5 @@
 use Rattle.std.proofs.Common.{◌∙◌, sym, ap, length, List, Option}
-use Rattle.amp_terms.specs.declared.Outcome.{Outcome}
+use Rattle.run_reports.proofs.Names.{Outcome}
 use Rattle.run_reports.proofs.ReportLemmas.{full-length}
 use Rattle.airyrun.proofs.NumberLemmas.{NumberLaws, IsMade, is_quotient, failed_quotient, holds_full}
 use Rattle.airyrun.proofs.numbers.print_number.Goals as goal

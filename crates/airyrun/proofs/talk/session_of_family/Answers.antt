@@ -1,11 +1,6 @@
-use Rattle.std.proofs.Common.{◌≡◌, true, false, sym, subst, ap, ◌∙◌}
-use Rattle.run_reports.specs.Report.{Ends, bound_refused}
-use Rattle.run_reports.specs.StructureTables.{ArePlanned, is_bound, making_over, structure_of}
-use Rattle.named_families.specs.Families.{Names}
-use Rattle.std.specs.Prelude.{None}
-use Rattle.command_words.specs.Bounds.{reach}
+use Rattle.std.proofs.Common.{◌≡◌, true, false, sym, subst, ap, ◌∙◌, None}
+use Rattle.run_reports.proofs.Names.{Ends, bound_refused, ArePlanned, is_bound, making_over, structure_of, Names, reach, parted_of}
 use Rattle.command_words.specs.Options.{lines_of}
-use Rattle.command_words.specs.Asked.{parted_of}
 use Rattle.run_reports.proofs.TableHeadline.{family_sound}
 use Rattle.airyrun.proofs.TalkLemmas.{bound-leads, making-leads, stored-leads, reached_bound}
 use Rattle.airyrun.proofs.talk.session_of_family.Goals as goal

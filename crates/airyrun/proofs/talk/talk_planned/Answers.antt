@@ -1,5 +1,5 @@
 use Rattle.std.proofs.Common.{sym, subst}
-use Rattle.amp_plan.specs.Plans.{tensors_of}
+use Rattle.run_reports.proofs.Names.{tensors_of}
 use Rattle.ask_seats.specs.Asks.{Fails}
 use Rattle.ask_seats.specs.Sessions.{Session}
 use Rattle.session_law.specs.Sessions.{answered}

@@ -1,13 +1,8 @@
-use Rattle.std.proofs.Common.{◌≡◌, false, rules, sym, subst, inr, refl, arith}
-use Rattle.std.specs.Prelude.{List}
-use Rattle.command_words.specs.Lines.{FinishesOnce, Rises}
-use Rattle.command_words.specs.declared.line.Line.{Line}
-use Rattle.sparse_tensor.specs.Entries.{looked_up}
-use Rattle.run_reports.specs.Report.{out_of_memory}
+use Rattle.std.proofs.Common.{◌≡◌, false, rules, sym, subst, inr, refl, arith, List}
+use Rattle.run_reports.proofs.Names.{FinishesOnce, Rises, Line, looked_up, out_of_memory, parted_of}
 use Rattle.session_law.specs.Sessions.{stored_session}
 use Rattle.airyrun.specs.Sessions.{EndsReplies}
 use Rattle.command_words.specs.Options.{lines_of}
-use Rattle.command_words.specs.Asked.{parted_of}
 use Rattle.airyrun.proofs.TalkLemmas.{other-ends}
 use Rattle.airyrun.proofs.talk.talk_script.Goals as goal
 

@@ -1,7 +1,5 @@
 use Rattle.std.proofs.Common.{◌∙◌, refl, ap, subst}
-use Rattle.airy_math.specs.Relations.{Close}
-use Rattle.sparse_tensor.specs.Entries.{looked_up}
-use Rattle.airy_relations.specs.Verdicts.{verdict}
+use Rattle.run_reports.proofs.Names.{Close, looked_up, verdict}
 use Rattle.run_reports.proofs.TextLemmas.{are_closed}
 use Rattle.airyrun.proofs.TextLemmas.{closed_ends, fails_ends}
 use Rattle.airyrun.proofs.texts.print_closed.Goals as goal

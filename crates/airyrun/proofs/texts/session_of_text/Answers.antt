@@ -1,10 +1,6 @@
 use Rattle.std.proofs.Common.{◌≡◌, false, refl, subst}
-use Rattle.run_reports.specs.Report.{Ends, bound_refused}
-use Rattle.run_reports.specs.StructureTables.{is_bound}
-use Rattle.run_reports.specs.Leads.{beyond}
-use Rattle.command_words.specs.Bounds.{reach}
+use Rattle.run_reports.proofs.Names.{Ends, bound_refused, is_bound, beyond, reach, parted_of}
 use Rattle.command_words.specs.Options.{lines_of}
-use Rattle.command_words.specs.Asked.{parted_of}
 use Rattle.airyrun.proofs.TalkLemmas.{reached_bound}
 use Rattle.run_reports.proofs.TextLemmas.{within_bound}
 use Rattle.airyrun.proofs.texts.session_of_text.Goals as goal

@@ -1,11 +1,6 @@
 use Rattle.std.proofs.Common.{◌∙◌, ap, subst, refl}
-use Rattle.airy_math.specs.Relations.{Close}
-use Rattle.sparse_tensor.specs.Entries.{looked_up}
-use Rattle.airy_relations.specs.Verdicts.{verdict}
-use Rattle.run_reports.specs.Structures.{text_structure}
-use Rattle.command_words.specs.Bounds.{reach}
+use Rattle.run_reports.proofs.Names.{Close, looked_up, verdict, text_structure, reach, parted_of}
 use Rattle.command_words.specs.Options.{lines_of}
-use Rattle.command_words.specs.Asked.{parted_of}
 use Rattle.run_reports.proofs.TextLemmas.{are_closed, text_sound}
 use Rattle.session_law.proofs.SessionLemmas.{text-planned, text-made}
 use Rattle.airyrun.proofs.TalkLemmas.{stored-leads, closed-leads, fails-leads}

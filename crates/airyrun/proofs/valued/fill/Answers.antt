@@ -1,7 +1,6 @@
-use Rattle.std.proofs.Common.{◌≡◌, rules}
-use Rattle.std.specs.Prelude.{Some}
-use Rattle.amp_plan.specs.Plans.{tensors_of, key_at}
-use Rattle.amp_terms.specs.Tables.{full_table, first_without}
+use Rattle.std.proofs.Common.{◌≡◌, rules, Some}
+use Rattle.run_reports.proofs.Names.{tensors_of, full_table, first_without}
+use Rattle.amp_plan.specs.Plans.{key_at}
 use Rattle.airyrun.proofs.ValuedLemmas.{ends_wanting, first_refuses}
 use Rattle.airyrun.proofs.valued.fill.Goals as goal
 

@@ -1,6 +1,5 @@
 use Rattle.std.proofs.Common.{◌∙◌, ap, sym, subst, length, List, Option}
-use Rattle.airy_math.specs.Keys.{euler}
-use Rattle.amp_terms.specs.declared.Outcome.{Outcome}
+use Rattle.run_reports.proofs.Names.{euler, Outcome}
 use Rattle.correlators.specs.Laws.{VolumeOfSolutions}
 use Rattle.correlators.specs.Volumes.{IsVolume, parts_of}
 use Rattle.run_reports.proofs.ReportLemmas.{full-length}

@@ -1,5 +1,4 @@
-use Rattle.std.proofs.Common.{arith, ap, length}
-use Rattle.std.specs.Prelude.{codes, decimal, List, ℕ}
+use Rattle.std.proofs.Common.{arith, ap, length, codes, decimal, List, ℕ}
 use Rattle.std.proofs.lemmas.List.{length-append}
 use Rattle.std.proofs.lemmas.Fmt.{length-decimal-le}
 use Rattle.airyrun.proofs.volumes.put_length.Goals as goal

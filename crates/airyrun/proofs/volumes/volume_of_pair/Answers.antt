@@ -1,12 +1,8 @@
-use Rattle.std.proofs.Common.{◌≡◌, rules, true, false, refl, subst, arith}
-use Rattle.std.specs.Prelude.{nat_le}
-use Rattle.airy_io.specs.Causes.{Taking}
-use Rattle.airy_math.specs.Keys.{euler}
+use Rattle.std.proofs.Common.{◌≡◌, rules, true, false, refl, subst, arith, nat_le}
+use Rattle.run_reports.proofs.Names.{Taking, euler, EndsByOrWants, is_bound, structure_of}
 use Rattle.airy_math.specs.Jobs.{Wp}
 use Rattle.correlators.specs.Volumes.{counted}
-use Rattle.run_reports.specs.Ends.{EndsByOrWants}
 use Rattle.airyrun.specs.Numbers.{IsQuotients, takes_volume}
-use Rattle.run_reports.specs.StructureTables.{is_bound, structure_of}
 use Rattle.airyrun.specs.Valued.{IsValued}
 use Rattle.airyrun.proofs.VolumeLemmas.{beyond_volume, made_volume, many_terms, unmade_volume}
 use Rattle.airyrun.proofs.volumes.volume_of_pair.Goals as goal

@@ -1,6 +1,5 @@
 use Rattle.std.proofs.Common.{arith, rules, refl, ◌+◌}
-use Rattle.key_index.specs.Codes.{code_of_genus}
-use Rattle.amp_plan.specs.Plans.{tensors_of}
+use Rattle.amp_plan.proofs.Words.{code_of_genus, tensors_of}
 use Rattle.amp_plan.proofs.FindLemmas.{unstable, uncovered, found_live}
 use Rattle.amp_plan.proofs.finding.find_live.Goals as goal
 

@@ -1,7 +1,6 @@
 use Rattle.std.proofs.Common.{arith, sym, ap, ◌∙◌, ◌<◌, length}
-use Rattle.airy_math.specs.Keys.{key_of, ordered}
-use Rattle.amp_plan.specs.Places.{place_in}
-use Rattle.amp_plan.proofs.RankWalkLemmas.{Orders, few_indices, ordered-push, length-ordered, made_stable, not_made, at_rank, not_at, not_stable}
+use Rattle.amp_plan.proofs.Words.{key_of, ordered, place_in, length-ordered}
+use Rattle.amp_plan.proofs.RankWalkLemmas.{Orders, few_indices, ordered-push, made_stable, not_made, at_rank, not_at, not_stable}
 use Rattle.amp_plan.proofs.finding.rank_with.Goals as goal
 
 pub with_index-indices-requires : goal.with_index-indices-requires

@@ -1,8 +1,5 @@
-use Rattle.std.proofs.Common.{arith, rules, sym, ◌∙◌, subst}
-use Rattle.std.proofs.lemmas.Int.{ints}
-use mir.Val.{to_z, of_z}
-use mir.Syntax.{w64}
-use Rattle.sparse_tensor.specs.Grades.{IsSmallLaw}
+use Rattle.std.proofs.Common.{arith, rules, sym, ◌∙◌, subst, to_z, of_z, w64}
+use Rattle.amp_plan.proofs.Words.{ints, IsSmallLaw}
 use Rattle.amp_plan.proofs.WindowLemmas.{no_room, room_is, natural_none, natural_some}
 use Rattle.amp_plan.proofs.letter.letter_at.Goals as goal
 

@@ -1,11 +1,6 @@
-use Rattle.std.proofs.Common.{arith, ap, ap₂, ◌∙◌, ◌≡◌, ◌≤◌, ◌+◌, ◌*◌, suc, subst, sym}
-use Rattle.std.specs.Prelude.{pos, ◌-ℤ◌}
-use Rattle.std.proofs.lemmas.Int.{ints}
-use Rattle.std.specs.Int.RustNames.{unsigned_abs}
+use Rattle.std.proofs.Common.{arith, ap, ap₂, ◌∙◌, ◌≡◌, ◌≤◌, ◌+◌, ◌*◌, suc, subst, sym, pos, ◌-ℤ◌, to_z, of_z, w64}
+use Rattle.amp_plan.proofs.Words.{ints, unsigned_abs, law_number}
 use Rattle.amp_plan.proofs.WindowLemmas.{law_small}
-use mir.Val.{to_z, of_z}
-use mir.Syntax.{w64}
-use Rattle.airy_math.specs.Shapes.{law_number}
 use Rattle.amp_plan.proofs.letter.room_of.Goals as goal
 
 pub overflow_sub-result : goal.overflow_sub-result

@@ -1,8 +1,6 @@
 use Rattle.std.proofs.Common.{arith, ◌≡◌, ap, sym, subst, ◌∙◌, length, ◌++◌, ◌∷◌, [], ◌-◌, ◌+◌, take}
-use Rattle.std.proofs.lemmas.Result.{err_from_is_err_and, on_ok_weaker}
+use Rattle.amp_plan.proofs.Words.{err_from_is_err_and, on_ok_weaker, IsSortedFrom, key_of, found}
 use Rattle.std.proofs.lemmas.List.{length_push}
-use Rattle.airy_math.specs.Keys.{IsSortedFrom, key_of}
-use Rattle.amp_plan.specs.Listing.{found}
 use Rattle.amp_plan.proofs.ListingLemmas.{sorted-front, sorted-next, found-key, found-no_key, found-end, listed-more, listed-same, too_many, popped, append-none}
 use Rattle.amp_plan.proofs.listing.+add_lists.Goals as goal
 use Rattle.amp_plan.proofs.listing.+add_lists.Goals.{then-can_reach+in_ok-done, else-can_reach}

@@ -1,9 +1,5 @@
 use Rattle.std.proofs.Common.{arith, ◌≡◌, refl, ap, sym, subst, ◌∙◌, length, ◌++◌, ◌∷◌, [], ◌-◌, ◌+◌, ◌*◌, ◌≤◌}
-use Rattle.std.proofs.lemmas.Result.{on_ok_weaker}
-use Rattle.airy_math.specs.Keys.{IsSortedFrom, key_of}
-use Rattle.airy_math.specs.Shapes.{covers}
-use Rattle.sparse_tensor.specs.Entries.{looked_up}
-use Rattle.amp_plan.specs.Listing.{keys_at, found}
+use Rattle.amp_plan.proofs.Words.{on_ok_weaker, IsSortedFrom, key_of, covers, looked_up, keys_at, found}
 use Rattle.amp_plan.proofs.ListingLemmas.{append-none}
 use Rattle.amp_plan.proofs.LevelLemmas.{keys_at-found, keys_at-none}
 use Rattle.amp_plan.proofs.listing.add_genus.Goals as goal

@@ -1,7 +1,6 @@
-use Rattle.std.proofs.Common.{arith, ◌≡◌, ap, ◌∙◌, length, ◌++◌, ◌∷◌, []}
-use Rattle.std.specs.Prelude.{Err}
-use Rattle.airy_math.specs.Keys.{key_of, euler}
-use Rattle.amp_plan.proofs.KeyLemmas.{no_error, ordered-sorted, added_where_ok}
+use Rattle.std.proofs.Common.{arith, ◌≡◌, ap, ◌∙◌, length, ◌++◌, ◌∷◌, [], Err}
+use Rattle.amp_plan.proofs.Words.{key_of, euler, ordered-sorted}
+use Rattle.amp_plan.proofs.KeyLemmas.{no_error, added_where_ok}
 use Rattle.amp_plan.proofs.listing.add_key.Goals as goal
 
 pub unreachable-requires : goal.unreachable-requires

@@ -1,8 +1,6 @@
 use Rattle.std.proofs.Common.{arith, ap, ◌∙◌, ◌++◌, ◌+◌, ◌/◌}
-use Rattle.std.proofs.lemmas.Result.{err_from_is_err_and}
-use Rattle.sparse_tensor.specs.Entries.{looked_up}
-use Rattle.airy_math.specs.Sums.{each, below, count_from}
-use Rattle.amp_plan.specs.Listing.{keys_at, level_keys}
+use Rattle.amp_plan.proofs.Words.{err_from_is_err_and, looked_up, each, count_from, keys_at, level_keys}
+use Rattle.airy_math.specs.Sums.{below}
 use Rattle.amp_plan.proofs.ListingLemmas.{append-none}
 use Rattle.amp_plan.proofs.LevelLemmas.{each-more, each-end, each-too_long}
 use Rattle.amp_plan.proofs.listing.add_level.Goals as goal

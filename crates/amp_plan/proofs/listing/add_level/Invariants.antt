@@ -1,7 +1,5 @@
 use Rattle.std.proofs.Common.{◌≡◌, ◌≤◌, ◌++◌, ◌-◌, length}
-use Rattle.airy_math.specs.Sums.{each, count_from}
-use Rattle.sparse_tensor.specs.Entries.{looked_up}
-use Rattle.amp_plan.specs.Listing.{keys_at, level_keys}
+use Rattle.amp_plan.proofs.Words.{each, count_from, looked_up, keys_at, level_keys}
 use Rattle.amp_plan.proofs.listing.add_level.Given as goal
 
 abbrev pub invariant-loop-genus : goal.invariant-loop-genus

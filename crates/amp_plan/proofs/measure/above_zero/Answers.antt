@@ -1,6 +1,4 @@
-use Rattle.std.proofs.Common.{arith, rules, sym}
-use mir.Val.{to_z, of_z}
-use mir.Syntax.{w64}
+use Rattle.std.proofs.Common.{arith, rules, sym, to_z, of_z, w64}
 use Rattle.amp_plan.proofs.WindowLemmas.{natural_none, natural_some}
 use Rattle.std.proofs.lemmas.Int.{ints}
 use Rattle.amp_plan.proofs.measure.above_zero.Goals as goal

@@ -1,5 +1,4 @@
-use Rattle.std.proofs.Common.{arith, refl, ap, ◌∙◌, ◌≡◌, true, false}
-use Rattle.std.specs.Prelude.{nat_eq}
+use Rattle.std.proofs.Common.{arith, refl, ap, ◌∙◌, ◌≡◌, true, false, nat_eq}
 use Rattle.airy_math.specs.RationalLaws.{half}
 use Rattle.airy_math.specs.Obtained.{obtained_product}
 use Rattle.airy_math.specs.Terms.{obtained_half}

@@ -1,10 +1,5 @@
 use Rattle.std.proofs.Common.{arith, sym, ◌∙◌, ◌≡◌, ap, ap₂, ◌+◌, ◌-◌, ◌<◌, length, ◌++◌, []}
-use Rattle.airy_math.specs.Sums.{each, count_from}
-use Rattle.airy_math.specs.Planned.{planned}
-use Rattle.sparse_tensor.specs.Entries.{looked_up}
-use Rattle.amp_plan.specs.Plans.{tensors_of, keys_of}
-use Rattle.amp_plan.specs.Listing.{level_keys}
-use Rattle.amp_plan.specs.Limits.{Tells}
+use Rattle.amp_plan.proofs.Words.{each, count_from, planned, looked_up, tensors_of, keys_of, level_keys, Tells}
 use Rattle.amp_plan.proofs.ListingLemmas.{append-none}
 use Rattle.amp_plan.proofs.LevelLemmas.{each-more, each-end, each-too_long}
 use Rattle.amp_plan.proofs.GrowLemmas.{planned-split}

@@ -1,8 +1,5 @@
 use Rattle.std.proofs.Common.{◌≡◌, ◌≤◌, ◌++◌, ◌-◌, length}
-use Rattle.airy_math.specs.Sums.{each, count_from}
-use Rattle.airy_math.specs.Planned.{planned}
-use Rattle.sparse_tensor.specs.Entries.{looked_up}
-use Rattle.amp_plan.specs.Listing.{level_keys}
+use Rattle.amp_plan.proofs.Words.{each, count_from, planned, looked_up, level_keys}
 use Rattle.amp_plan.proofs.ranking.planned_keys.Given as goal
 
 abbrev pub invariant-loop-level : goal.invariant-loop-level

@@ -1,5 +1,4 @@
-use Rattle.std.proofs.Common.{arith, ap}
-use Rattle.std.specs.Prelude.{slice_index}
+use Rattle.std.proofs.Common.{arith, ap, slice_index}
 use Rattle.amp_plan.proofs.ListWalkLemmas.{lead, lead-more, lead-other, lead-end, runs-first, head-index}
 use Rattle.amp_plan.proofs.rest.run_length.Goals as goal
 

@@ -1,5 +1,4 @@
-use Rattle.std.proofs.Common.{arith, sym, ap, ◌∙◌, ◌+◌, ◌-◌, ◌++◌, ◌∷◌, [], length, length-drop, take, drop, append_assoc, append-nil}
-use Rattle.std.specs.Prelude.{slice_index}
+use Rattle.std.proofs.Common.{arith, sym, ap, ◌∙◌, ◌+◌, ◌-◌, ◌++◌, ◌∷◌, [], length, length-drop, take, drop, append_assoc, append-nil, slice_index}
 use Rattle.std.proofs.lemmas.List.{take_rest}
 use Rattle.airy_math.specs.Splits.{runs}
 use Rattle.amp_plan.proofs.ListWalkLemmas.{runs-next, runs-end}

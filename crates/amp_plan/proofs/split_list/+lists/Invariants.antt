@@ -4,7 +4,7 @@ use Rattle.amp_plan.proofs.split_list.+lists.Given as goal
 
 -- a copy more of the first run, or a run less
 abbrev pub decreases-list_copies : goal.decreases-list_copies
-decreases-list_copies g l = 2 * (whole_length l.left.now + length l.left.now - l.taken)
+decreases-list_copies g l = 2 * (l.run.1 + whole_length l.others.now + length l.others.now + 1 - l.taken)
 
 -- the test comes before the copies of the same runs
 abbrev pub decreases-list_splits : goal.decreases-list_splits

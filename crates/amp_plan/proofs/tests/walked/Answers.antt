@@ -1,9 +1,5 @@
-use Rattle.std.proofs.Common.{arith, ap, subst, ◌<◌, length}
-use Rattle.std.specs.Prelude.{slice_index}
-use Rattle.airy_math.specs.Keys.{times, remove}
-use Rattle.airy_math.specs.Terms.{terms}
-use Rattle.amp_plan.specs.Plans.{tensors_of, rank_at}
-use Rattle.amp_plan.specs.Ranked.{all_ranked}
+use Rattle.std.proofs.Common.{arith, ap, subst, ◌<◌, length, slice_index}
+use Rattle.amp_plan.proofs.Words.{times, remove, terms, tensors_of, rank_at, all_ranked}
 use Rattle.amp_plan.proofs.TestLemmas.{index_stands, terms_allowed}
 use Rattle.amp_plan.proofs.tests.walked.Goals as goal
 

@@ -1,8 +1,7 @@
-use Rattle.std.proofs.Common.{take}
-use Rattle.airy_math.specs.Sums.{each}
-use Rattle.amp_plan.specs.Ranked.{Takes}
-use Rattle.amp_plan.specs.Walk.{once_part}
+use Rattle.std.proofs.Common.{drop}
+use Rattle.amp_plan.proofs.Words.{once_part, row_b, tensors_of}
+use Rattle.amp_plan.proofs.WalkLemmas.{HasTaken}
 use Rattle.amp_plan.proofs.walk.walk_run.Given as goal
 
 abbrev pub invariant-loop-entry : goal.invariant-loop-entry
-invariant-loop-entry g l = Takes g.V.TermVisitor.allows g.V.TermVisitor.state g.V.TermVisitor.step (each (take l.entry-index l.row) (once_part l.ranking l.genus l.left l.run.1)) l.initial.visitor l.visitor
+invariant-loop-entry g l = HasTaken g.V.TermVisitor.allows g.V.TermVisitor.state g.V.TermVisitor.step (once_part l.ranking l.genus l.left l.run.1) (row_b (tensors_of l.ranking) l.pivot l.run.0) (drop l.entry-index l.row) l.initial.visitor l.visitor

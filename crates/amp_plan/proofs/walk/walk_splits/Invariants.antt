@@ -1,5 +1,4 @@
-use Rattle.airy_math.specs.Splits.{splits}
-use Rattle.amp_plan.specs.Walk.{split_part}
+use Rattle.amp_plan.proofs.Words.{splits, split_part}
 use Rattle.amp_plan.proofs.WalkLemmas.{HasTaken}
 use Rattle.amp_plan.proofs.walk.walk_splits.Given as goal
 

@@ -1,8 +1,5 @@
-use Rattle.std.proofs.Common.{rules, arith, refl, ap, ap₂, sym, subst, ◌∙◌, ◌≡◌, ◌≤◌, ◌++◌, ◌+◌, ◌∷◌, [], drop, length, Bool, ℕ, List}
-use Rattle.std.specs.Prelude.{slice_index}
-use Rattle.std.proofs.Common.{true, false}
-use Rattle.std.proofs.lemmas.Bool.{false≢true}
-use Rattle.airy_math.specs.Keys.{remove}
+use Rattle.std.proofs.Common.{rules, arith, refl, ap, ap₂, sym, subst, ◌∙◌, ◌≡◌, ◌≤◌, ◌++◌, ◌+◌, ◌∷◌, [], drop, length, Bool, ℕ, List, true, false, slice_index}
+use Rattle.amp_plan.proofs.Words.{false≢true, remove}
 use Rattle.amp_plan.proofs.ListWalkLemmas.{without_from, without-found, without-kept, without-end}
 use Rattle.amp_plan.proofs.walk.without.Goals as goal
 use Rattle.amp_plan.proofs.walk.without.Goals.{then-not-found+then-y-x, else-not-found, else-not-found-via-then-not-found+else-y-x, else-not-found-via-else-not-found}

@@ -1,9 +1,5 @@
-use Rattle.std.proofs.Common.{rules, arith, ap₂, ◌∙◌, ◌≡◌}
-use Rattle.std.specs.Prelude.{ℤ, pos, ◌*ℤ◌, ◌-ℤ◌}
-use Rattle.std.proofs.lemmas.Int.{ints}
-use mir.Val.{to_z, of_z}
-use mir.Syntax.{w16, w32}
-use Rattle.airy_math.specs.Shapes.{law_number}
+use Rattle.std.proofs.Common.{rules, arith, ap₂, ◌∙◌, ◌≡◌, ℤ, pos, ◌*ℤ◌, ◌-ℤ◌, to_z, of_z, w16, w32}
+use Rattle.amp_plan.proofs.Words.{ints, law_number}
 use Rattle.amp_plan.proofs.window.number_of.Goals as goal
 
 -- a product of the same numbers

@@ -1,4 +1,4 @@
-use Rattle.std.proofs.Common.{arith, sym, ap, subst, ◌∙◌, ◌≡◌, ◌≤◌, ◌+◌, [], length, replicate, None}
+use Rattle.std.proofs.Common.{arith, sym, ap, subst, ◌∙◌, ◌+◌, [], replicate, None}
 use Rattle.amp_plan.specs.Plans.{tensors_of, keys_of, key_at}
 use Rattle.amp_terms.specs.Outcomes.{outcomes, outcomes_after}
 use Rattle.amp_terms.specs.Tables.{full_table}

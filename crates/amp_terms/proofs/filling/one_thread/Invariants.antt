@@ -1,4 +1,3 @@
-use Rattle.airy_math.specs.Tensors.{Tensors}
 use Rattle.amp_plan.specs.Plans.{tensors_of, keys_of}
 use Rattle.amp_terms.specs.Outcomes.{outcomes_after}
 use Rattle.std.proofs.Common.{[]}

@@ -1,15 +1,16 @@
-use Rattle.std.proofs.Common.{arith, sym, ap, subst, ◌∙◌, ◌<◌, ℕ, length}
+use Rattle.std.proofs.Common.{sym, ap, subst, ◌∙◌, ◌<◌, ℕ, length}
 use Rattle.std.specs.Prelude.{slice_index}
 use Rattle.airy_math.specs.Keys.{head_or, times, Key, remove}
 use Rattle.airy_math.specs.Planned.{IsPlanned}
 use Rattle.airy_math.specs.Terms.{terms}
-use Rattle.amp_plan.specs.Plans.{tensors_of, keys_of, key_at}
+use Rattle.amp_plan.specs.Plans.{tensors_of, keys_of}
 use Rattle.amp_plan.specs.Ranked.{AreAllowed}
 use Rattle.amp_terms.specs.Outcomes.{ranks_named}
 use Rattle.amp_terms.specs.Pivots.{pivot_outcome}
 use Rattle.amp_terms.specs.Tables.{shown_in, IsFilled}
-use Rattle.amp_terms.proofs.NamedLemmas.{head-index, named_below, least_stands, rank_planned}
+use Rattle.amp_terms.proofs.NamedLemmas.{named_below, least_stands, rank_planned}
 use Rattle.amp_terms.proofs.filling.outcome_at.Goals as goal
+use Rattle.amp_plan.proofs.ListWalkLemmas.{head-index}
 
 pub pivot_value-requires-clause-planned : goal.pivot_value-requires-clause-planned
 pivot_value-requires-clause-planned c =

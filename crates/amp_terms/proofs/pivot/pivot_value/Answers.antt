@@ -1,9 +1,8 @@
-use Rattle.std.proofs.Common.{rules, ap, ◌∙◌}
+use Rattle.std.proofs.Common.{rules}
 use Rattle.airy_math.specs.Keys.{remove}
 use Rattle.airy_math.specs.RationalLaws.{0ℚ}
 use Rattle.airy_math.specs.Terms.{terms}
-use Rattle.amp_plan.specs.Plans.{tensors_of, rank_at}
-use Rattle.amp_plan.specs.Ranked.{all_ranked}
+use Rattle.amp_plan.specs.Plans.{tensors_of}
 use Rattle.amp_terms.proofs.SummingLemmas.{allowed-named}
 use Rattle.amp_terms.proofs.pivot.pivot_value.Goals as goal
 

@@ -4,8 +4,8 @@ use Rattle.airy_math.specs.Keys.{times}
 use Rattle.airy_math.specs.Planned.{IsPlanned}
 use Rattle.amp_plan.specs.Plans.{tensors_of, keys_of}
 use Rattle.amp_terms.proofs.NamedLemmas.{rank_planned}
-use Rattle.amp_terms.proofs.TestLemmas.{index_stands}
 use Rattle.amp_terms.proofs.tests.value_at.Goals as goal
+use Rattle.amp_plan.proofs.TestLemmas.{index_stands}
 
 pub names_ranks-requires-clause-planned : goal.names_ranks-requires-clause-planned
 names_ranks-requires-clause-planned c =

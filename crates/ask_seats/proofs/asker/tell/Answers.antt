@@ -1,9 +1,7 @@
 use Rattle.std.proofs.Common.{◌≡◌, sym, ap, ◌∙◌}
 use Rattle.sparse_tensor.specs.Entries.{looked_up}
-use Rattle.amp_plan.specs.Plans.{tensors_of, keys_of, key_at}
-use Rattle.amp_plan.specs.Places.{letter_power}
-use Rattle.ask_seats.specs.Replies.{Value, Blocked, reply_of}
-use Rattle.ask_seats.specs.Sessions.{outcome_reply}
+use Rattle.ask_seats.proofs.Names.{tensors_of, keys_of, key_at, letter_power, reply_of, outcome_reply}
+use Rattle.ask_seats.specs.Replies.{Value, Blocked}
 use Rattle.ask_seats.proofs.asker.tell.Goals as goal
 
 pub returns-in-Value : goal.returns-in-Value

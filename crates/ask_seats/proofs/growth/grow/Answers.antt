@@ -1,14 +1,6 @@
-use Rattle.std.proofs.Common.{◌≡◌, ℕ, ◌<◌, ◌≤◌, Bool, true, false, arith, refl, sym, ap, ap₂, ◌∙◌, subst}
-use Rattle.std.proofs.lemmas.Bool.{le-leb}
-use Rattle.std.specs.Prelude.{cond, ◌&&◌, Option, Some, None}
-use lib.Dec.{leb}
-use Rattle.airy_math.specs.Keys.{Key}
-use Rattle.airy_math.specs.Tensors.{Tensors}
-use Rattle.std.proofs.Common.{List}
-use Rattle.amp_plan.specs.Limits.{Limit, Within, PassesBound, PassesCells, PassesNeeds, limit, limit_of, past, Tells}
-use Rattle.amp_plan.specs.Plans.{Planning, tensors_of}
-use Rattle.ask_seats.specs.Sessions.{growth, bound_after}
-use Rattle.ask_seats.specs.Talks.{growth_reply, up_to}
+use Rattle.std.proofs.Common.{◌≡◌, ℕ, ◌<◌, ◌≤◌, Bool, true, false, arith, refl, sym, ap, ap₂, ◌∙◌, subst, le-leb, cond, ◌&&◌, Option, Some, None, leb, List}
+use Rattle.amp_plan.specs.Limits.{Limit, Within, PassesBound, PassesCells, PassesNeeds, past, Tells}
+use Rattle.ask_seats.proofs.Names.{Key, Tensors, limit, limit_of, Planning, tensors_of, growth, bound_after, growth_reply, up_to}
 use Rattle.ask_seats.proofs.growth.grow.Goals as goal
 
 not_past : (keys : List Key) (o : Option ℕ) → past keys o ≡ PassesBound → ⊥
@@ -26,13 +18,12 @@ in_bounds T X low high e = by (leb 1 X && leb X 24) _ _ _ _ (ap₂ ◌&&◌ (le-
     by true false o keys l h f = cc
     by false c o keys l h f = cc
 
-pub returns-in-Ok-clause-plan : goal.returns-in-Ok-clause-plan
-unfolding limit_of tensors_of bound_after
-returns-in-Ok-clause-plan c = c.in-Ok.ensures.plan ∙ ap (λ l. up_to (bound_after l c.args.plan.bound c.args.bound) c.args.plan) (sym c.in-Ok.ensures.within)
-
-pub returns-in-Ok-clause-reply : goal.returns-in-Ok-clause-reply
-unfolding limit_of tensors_of growth growth_reply
-returns-in-Ok-clause-reply c = ap (λ l. growth l c.args.bound) (sym c.in-Ok.ensures.within)
+pub returns-in-Ok : goal.returns-in-Ok
+unfolding limit_of tensors_of bound_after growth growth_reply
+returns-in-Ok c = record {
+  plan = c.in-Ok.ensures.plan ∙ ap (λ l. up_to (bound_after l c.args.plan.bound c.args.bound) c.args.plan) (sym c.in-Ok.ensures.within);
+  reply = ap (λ l. growth l c.args.bound) (sym c.in-Ok.ensures.within);
+}
 
 pub unreachable-requires : goal.unreachable-requires
 unfolding limit_of tensors_of Tells
@@ -41,20 +32,18 @@ unreachable-requires c =
     let told = subst (Tells q) c.in-Bound.is c.in-Err.ensures.cause in
     in_bounds (tensors_of c.args.plan) c.args.bound (omega (arith, c.requires.above)) c.requires.most told.0
 
-pub returns-in-Cells-clause-plan : goal.returns-in-Cells-clause-plan
-unfolding limit_of tensors_of Tells bound_after
-returns-in-Cells-clause-plan c =
-    c.in-Err.ensures.back ∙ ap (λ l. up_to (bound_after l c.args.plan.bound c.args.bound) c.args.plan) (sym (subst (Tells (up_to c.args.bound c.args.plan)) c.in-Cells.is c.in-Err.ensures.cause))
+-- a limit that is passed keeps the plan, and has its reply
+kept : (p back : Planning) (X : ℕ) (l : Limit) → back ≡ p → limit (tensors_of p) X ≡ l → bound_after l p.bound X ≡ p.bound → back ≡ up_to (bound_after (limit (tensors_of p) X) p.bound X) p
+kept p back X l same is stays = same ∙ ap (λ k. up_to k p) (sym (ap (λ k. bound_after k p.bound X) is ∙ stays))
 
-pub returns-in-Cells-clause-reply : goal.returns-in-Cells-clause-reply
-unfolding limit_of tensors_of Tells growth growth_reply
-returns-in-Cells-clause-reply c = ap (λ l. growth l c.args.bound) (sym (subst (Tells (up_to c.args.bound c.args.plan)) c.in-Cells.is c.in-Err.ensures.cause))
+pub returns-in-Cells : goal.returns-in-Cells
+unfolding limit_of tensors_of Tells bound_after growth growth_reply
+returns-in-Cells c =
+    let told = subst (Tells (up_to c.args.bound c.args.plan)) c.in-Cells.is c.in-Err.ensures.cause in
+    record { plan = kept c.args.plan _ c.args.bound _ c.in-Err.ensures.back told refl; reply = ap (λ l. growth l c.args.bound) (sym told) }
 
-pub returns-in-Edges-clause-plan : goal.returns-in-Edges-clause-plan
-unfolding limit_of tensors_of Tells bound_after
-returns-in-Edges-clause-plan c =
-    c.in-Err.ensures.back ∙ ap (λ l. up_to (bound_after l c.args.plan.bound c.args.bound) c.args.plan) (sym (subst (Tells (up_to c.args.bound c.args.plan)) c.in-Edges.is c.in-Err.ensures.cause))
-
-pub returns-in-Edges-clause-reply : goal.returns-in-Edges-clause-reply
-unfolding limit_of tensors_of Tells growth growth_reply
-returns-in-Edges-clause-reply c = ap (λ l. growth l c.args.bound) (sym (subst (Tells (up_to c.args.bound c.args.plan)) c.in-Edges.is c.in-Err.ensures.cause))
+pub returns-in-Edges : goal.returns-in-Edges
+unfolding limit_of tensors_of Tells bound_after growth growth_reply
+returns-in-Edges c =
+    let told = subst (Tells (up_to c.args.bound c.args.plan)) c.in-Edges.is c.in-Err.ensures.cause in
+    record { plan = kept c.args.plan _ c.args.bound _ c.in-Err.ensures.back told refl; reply = ap (λ l. growth l c.args.bound) (sym told) }

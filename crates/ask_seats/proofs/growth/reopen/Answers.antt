@@ -1,10 +1,6 @@
 use Rattle.std.proofs.Common.{◌≡◌, ℕ, ◌<◌, ◌≤◌, ◌+◌, true, arith, sym, ap, ◌∙◌, subst}
-use Rattle.amp_plan.specs.Needs.{has}
-use Rattle.amp_plan.specs.Limits.{limit}
-use Rattle.amp_plan.specs.Plans.{tensors_of}
 use Rattle.cell_words.specs.Countdown.{by_sight}
-use Rattle.cell_words.specs.Resuming.{CanResume}
-use Rattle.ask_seats.specs.Sessions.{bound_after}
+use Rattle.ask_seats.proofs.Names.{has, limit, tensors_of, CanResume, bound_after}
 use Rattle.ask_seats.proofs.FrontLemmas.{leads-begun}
 use Rattle.ask_seats.proofs.ReplyLemmas.{grows-up}
 use Rattle.ask_seats.proofs.growth.reopen.Goals as goal

@@ -1,9 +1,5 @@
 use Rattle.std.proofs.Common.{◌≡◌, ℕ, ◌<◌, ◌+◌, [], ◌∷◌, ◌++◌, List, take, length, get_or, arith, refl, sym, ap, ◌∙◌, subst}
-use Rattle.std.proofs.lemmas.List.{take_more}
-use Rattle.command_words.specs.Lines.{AreAsks}
-use Rattle.command_words.specs.declared.line.Line.{Line}
-use Rattle.command_words.specs.declared.line.Line.TheVariants.{Ask, Finish, Grow}
-use Rattle.ask_seats.specs.Talks.{IsPart}
+use Rattle.ask_seats.proofs.Names.{take_more, AreAsks, Line, Ask, Finish, Grow, IsPart}
 use Rattle.ask_seats.proofs.SessionLemmas.{asks-snoc, part-at}
 use Rattle.ask_seats.proofs.lines.finish_at.Goals as goal
 

@@ -1,5 +1,5 @@
 use Rattle.std.proofs.Common.{take}
-use Rattle.command_words.specs.Lines.{AreAsks}
+use Rattle.ask_seats.proofs.Names.{AreAsks}
 use Rattle.ask_seats.proofs.lines.finish_at.Given as goal
 
 abbrev pub invariant-loop-at : goal.invariant-loop-at

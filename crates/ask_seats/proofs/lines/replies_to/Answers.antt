@@ -1,8 +1,5 @@
 use Rattle.std.proofs.Common.{◌≡◌, ◌⊎◌, inl, inr, ℕ, ◌<◌, ◌≤◌, ◌+◌, [], ◌∷◌, ◌++◌, List, take, length, get_or, arith, sym, ap, ◌∙◌}
-use Rattle.std.proofs.lemmas.List.{take_more}
-use Rattle.command_words.specs.declared.line.Line.{Line}
-use Rattle.command_words.specs.declared.line.Line.TheVariants.{Finish}
-use Rattle.ask_seats.specs.Talks.{replies_due}
+use Rattle.ask_seats.proofs.Names.{take_more, Line, Finish, replies_due}
 use Rattle.ask_seats.proofs.SessionLemmas.{due-snoc}
 use Rattle.ask_seats.proofs.lines.replies_to.Goals as goal
 

@@ -1,21 +1,12 @@
-use Rattle.std.proofs.Common.{◌≡◌, ℕ, ◌<◌, ◌≤◌, ◌+◌, ◌-◌, [], ◌∷◌, ◌++◌, take, drop, length, Some, true, true≢false, false, arith, refl, sym, ap, ◌∙◌, subst}
-use Rattle.std.proofs.lemmas.List.{take-append-drop, take_all, length-drop}
+use Rattle.std.proofs.Common.{◌≡◌, ℕ, ◌<◌, ◌≤◌, ◌+◌, ◌-◌, [], ◌∷◌, ◌++◌, take, drop, length, Some, true, true≢false, false, arith, refl, sym, ap, ◌∙◌, subst, take-append-drop, take_all, length-drop}
 use Rattle.airy_io.proofs.Prefixes.{on_err}
-use Rattle.amp_plan.specs.Plans.{Planning, tensors_of}
-use Rattle.amp_plan.specs.Needs.{has}
-use Rattle.cell_words.specs.Deals.{AreAll}
-use Rattle.cell_words.specs.Seats.{carried_of}
-use Rattle.ask_seats.specs.Carrying.{Leads}
-use Rattle.ask_seats.specs.Counts.{Knows}
-use Rattle.ask_seats.specs.Sessions.{Stage, finish}
-use Rattle.ask_seats.specs.Asks.{AreAsks, Rises, ends_finished}
-use Rattle.ask_seats.specs.Talks.{AnyOf, Carried, Stands, Wrote, Broke, stage_after}
-use Rattle.command_words.specs.declared.line.Line.TheVariants.{Finish}
 use Rattle.fill_crew.specs.Crews.{IsIdle}
 use Rattle.fill_crew.proofs.CrewLemmas.{rest_idle, last_idle}
+use Rattle.ask_seats.proofs.Names.{Planning, tensors_of, has, AreAll, carried_of, Leads, Knows, Stage, finish, AreAsks, Rises, ends_finished, AnyOf, Carried, Stands, Wrote, Broke, stage_after, Finish}
 use Rattle.ask_seats.proofs.FrontLemmas.{leads-asked, leaves-first}
 use Rattle.ask_seats.proofs.SeatLemmas.{joined_again, last_has, last_known, full_partial, full_carries}
-use Rattle.ask_seats.proofs.SessionLemmas.{stands-map, stands-finish, wrote-map, wrote-both, broke-behind, broke-before, part-rises, rest-asks, ends-asks, split-lines, ok_of, err_of}
+use Rattle.ask_seats.proofs.SpeakLemmas.{stands-map}
+use Rattle.ask_seats.proofs.SessionLemmas.{stands-finish, wrote-map, wrote-both, broke-behind, broke-before, part-rises, rest-asks, ends-asks, split-lines, ok_of, err_of}
 use Rattle.ask_seats.proofs.parts.talk.Goals as goal
 
 pub answer_beside-seats-requires-clause-crew : goal.answer_beside-seats-requires-clause-crew

@@ -1,13 +1,6 @@
-use Rattle.std.proofs.Common.{◌≡◌, ℕ, ◌<◌, ◌≤◌, ◌+◌, Bool, List, [], ◌∷◌, ◌++◌, take, drop, length, get_or, Option, arith, refl, sym, ap, ◌∙◌, subst, rules}
-use Rattle.std.proofs.lemmas.List.{take-append-drop, drop_more, take_more, take_all}
-use Rattle.std.specs.Io.KnownBytes.{Appends}
-use Rattle.airy_io.specs.Causes.{AppendsPrefix}
+use Rattle.std.proofs.Common.{◌≡◌, ℕ, ◌<◌, ◌≤◌, ◌+◌, Bool, List, [], ◌∷◌, ◌++◌, take, drop, length, get_or, Option, arith, refl, sym, ap, ◌∙◌, subst, rules, take-append-drop, take_all}
 use Rattle.airy_io.proofs.Prefixes.{on_err}
-use Rattle.airy_math.specs.Ranks.{ListsPlanned}
-use Rattle.amp_plan.specs.Plans.{Planning, tensors_of}
-use Rattle.ask_seats.specs.Asks.{AreAsks}
-use Rattle.ask_seats.specs.Talks.{Stands, Wrote, Broke}
-use Rattle.command_words.specs.declared.line.Line.{Line}
+use Rattle.ask_seats.proofs.Names.{drop_more, take_more, Appends, AppendsPrefix, ListsPlanned, Planning, tensors_of, AreAsks, Stands, Wrote, Broke, Line}
 use Rattle.ask_seats.proofs.TalkLemmas.{asks-at, asks-behind, key_asked, starts, goes-on, breaks-off}
 use Rattle.ask_seats.proofs.replies.answer_all.Goals as goal
 

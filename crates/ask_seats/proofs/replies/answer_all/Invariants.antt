@@ -1,6 +1,5 @@
 use Rattle.std.proofs.Common.{◌≡◌, ◌≤◌, ℕ, take}
-use Rattle.ask_seats.specs.Sessions.{Stage}
-use Rattle.ask_seats.specs.Talks.{Stands, Wrote}
+use Rattle.ask_seats.proofs.Names.{Stage, Stands, Wrote}
 use Rattle.ask_seats.proofs.replies.answer_all.Given as goal
 
 abbrev pub invariant-loop-line : goal.invariant-loop-line

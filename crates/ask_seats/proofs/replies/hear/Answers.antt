@@ -1,23 +1,15 @@
 use Rattle.std.proofs.Common.{◌≡◌, ℕ, Bool, true, false, Option, refl, sym, ap, ◌∙◌, subst, rules, IsTrue, ◌<◌}
-use Rattle.amp_plan.specs.Plans.{Planning, tensors_of}
-use Rattle.amp_plan.specs.Places.{place_in}
-use Rattle.amp_plan.specs.declared.place.Place.{Place}
-use Rattle.amp_plan.specs.declared.place.Place.TheVariants as place
-use Rattle.airy_math.specs.Keys.{Key}
-use Rattle.cell_words.specs.Layout.{cells, outcome_at}
-use Rattle.cell_words.specs.Looks.{Reaches}
-use Rattle.amp_terms.specs.declared.Outcome.{Outcome}
-use Rattle.ask_seats.specs.Replies.{Reply, NotYet, reply_of}
-use Rattle.ask_seats.specs.Sessions.{told, told_at, outcome_reply, place_at}
+use Rattle.ask_seats.proofs.Names.{Planning, tensors_of, place_in, Place, Key, cells, outcome_at, Reaches, Outcome, Reply, reply_of, told, told_at, outcome_reply, place_at, euler_of, Hears, told_of, holds_back}
+use Rattle.ask_seats.specs.Replies.{NotYet}
 use Rattle.ask_seats.specs.Asks.{AnswersAt, Looks}
-use Rattle.ask_seats.specs.Asks as asks
-use Rattle.airy_math.specs.Levels.{euler_of}
-use Rattle.ask_seats.specs.Talks.{Hears, tells, misses, waits, told_of, holds_back}
+use Rattle.ask_seats.specs.Talks.{tells, misses, waits}
 use Rattle.ask_seats.specs.declared.answer.Answer.{Answer}
-use Rattle.ask_seats.specs.declared.answer.Answer.TheVariants as answer
 use Rattle.ask_seats.proofs.PlaceLemmas.{same_place}
-use Rattle.ask_seats.proofs.replies.hear.Goals as goal
 use Rattle.ask_seats.proofs.replies.hear.Goals.{then-holds_back+in_default, else-holds_back}
+use Rattle.amp_plan.specs.declared.place.Place.TheVariants as place
+use Rattle.ask_seats.specs.Asks as asks
+use Rattle.ask_seats.specs.declared.answer.Answer.TheVariants as answer
+use Rattle.ask_seats.proofs.replies.hear.Goals as goal
 
 at_place : (p : Planning) (key : Key) (x : Place) → place_in p key ≡ x → told_of p key ≡ told_at (tensors_of p) p.tensors.letter p.bound key x
 unfolding told

@@ -1,20 +1,6 @@
-use Rattle.std.proofs.Common.{◌≡◌, ◌⊎◌, inl, inr, ℕ, ◌<◌, ◌≤◌, ◌+◌, ◌-◌, [], ◌∷◌, ◌++◌, List, Option, true, false, take, drop, length, get_or, arith, sym, ap, ◌∙◌, subst}
-use Rattle.std.proofs.lemmas.List.{take-append-drop, take_all, drop_more, length-drop, get_or-drop}
-use Rattle.airy_io.specs.Causes.{Rose}
-use Rattle.amp_plan.specs.Limits.{limit}
-use Rattle.amp_plan.specs.Needs.{has}
-use Rattle.amp_plan.specs.Plans.{Planning, tensors_of}
-use Rattle.amp_terms.specs.Tables.{full_table}
-use Rattle.cell_words.specs.Layout.{IsPartial}
-use Rattle.cell_words.specs.Resuming.{CanResume}
-use Rattle.cell_words.specs.Seats.{carried_of}
+use Rattle.std.proofs.Common.{◌≡◌, ◌⊎◌, inl, inr, ℕ, ◌<◌, ◌≤◌, ◌+◌, ◌-◌, [], ◌∷◌, ◌++◌, List, Option, true, false, take, drop, length, get_or, arith, sym, ap, ◌∙◌, subst, take-append-drop, take_all, length-drop, get_or-drop}
 use Rattle.cell_words.proofs.ResumeLemmas.{has_carried}
-use Rattle.ask_seats.specs.Sessions.{bound_after}
-use Rattle.ask_seats.specs.Asks.{CutShort, FinishesOnce, ends_finished, session_of}
-use Rattle.ask_seats.specs.Talks.{Carried, FallsSilent, GoesOn, IsPart, Paused, Speaks, growth_reply, up_to}
-use Rattle.command_words.specs.declared.line.Line.{Line}
-use Rattle.command_words.specs.declared.line.Line.TheVariants.{Grow}
-use Rattle.ask_seats.specs.Carrying.{KeepsCarried}
+use Rattle.ask_seats.proofs.Names.{drop_more, Rose, limit, has, Planning, tensors_of, full_table, IsPartial, CanResume, carried_of, bound_after, CutShort, FinishesOnce, ends_finished, session_of, Carried, FallsSilent, GoesOn, IsPart, Paused, Speaks, growth_reply, up_to, Line, Grow, KeepsCarried}
 use Rattle.ask_seats.proofs.FrontLemmas.{keeps-grown}
 use Rattle.ask_seats.proofs.ReplyLemmas.{grows-up}
 use Rattle.ask_seats.proofs.SessionLemmas.{goes-above, goes-once, goes-next, next-lines, all-lines, ends-grow, stops-at, paused-next, cut-next, spoken-last, bound-last}

@@ -1,7 +1,5 @@
 use Rattle.std.proofs.Common.{◌≡◌, ◌-◌, ℕ, List, Option, take, length}
-use Rattle.amp_plan.specs.Plans.{Planning}
-use Rattle.ask_seats.specs.Carrying.{KeepsCarried}
-use Rattle.ask_seats.specs.Talks.{GoesOn, IsLeft, Paused}
+use Rattle.ask_seats.proofs.Names.{Planning, KeepsCarried, GoesOn, IsLeft, Paused}
 use Rattle.ask_seats.proofs.sessions.go_on.Given as goal
 
 abbrev pub invariant-loop-at : goal.invariant-loop-at

@@ -1,34 +1,14 @@
-use Rattle.std.proofs.Common.{◌≡◌, ℕ, ◌<◌, ◌≤◌, ◌+◌, [], ◌++◌, List, Option, true, false, true≢false, take, drop, length, arith, refl, sym, ap, ◌∙◌, subst}
-use Rattle.std.proofs.lemmas.List.{take-append-drop}
-use Rattle.std.specs.Prelude.{Result, Ok, Err, IfOk, IfErr, OnOk, None}
-use Rattle.airy_io.specs.Causes.{Taking}
-use Rattle.amp_plan.specs.Needs.{has}
-use Rattle.amp_plan.specs.Plans.{Planning, tensors_of}
-use Rattle.amp_terms.specs.Tables.{full_table}
-use Rattle.cell_words.specs.Layout.{IsPartial}
-use Rattle.cell_words.specs.Resuming.{CanResume}
-use Rattle.cell_words.specs.Seats.{carried_of}
-use Rattle.ask_seats.specs.Sessions.{start}
-use Rattle.ask_seats.specs.Asks.{CutShort, Rises, session_of}
-use Rattle.cell_words.specs.declared.closed.Closed.{Closed}
-use Rattle.ask_seats.specs.Carrying.{LeavesFirst, KeepsCarried}
-use Rattle.ask_seats.specs.Talks.{Carried, GoesOn, IsPart, Paused, Writes}
+use Rattle.std.proofs.Common.{◌≡◌, ℕ, ◌<◌, ◌≤◌, ◌+◌, [], ◌++◌, List, Option, true, false, true≢false, take, drop, length, arith, refl, sym, ap, ◌∙◌, subst, take-append-drop, Result, Ok, Err, IfOk, IfErr, OnOk, None}
+use Rattle.std.proofs.lemmas.Result.{IfOk-weaker, IfErr-weaker, on_ok_weaker}
+use Rattle.ask_seats.proofs.Names.{Taking, has, Planning, tensors_of, full_table, IsPartial, CanResume, carried_of, start, CutShort, Rises, session_of, Closed, LeavesFirst, KeepsCarried, Carried, GoesOn, IsPart, Paused, Line}
+use Rattle.ask_seats.specs.Talks.{Writes}
 use Rattle.ask_seats.proofs.FrontLemmas.{leads-new, keeps-none}
-use Rattle.command_words.specs.declared.line.Line.{Line}
-use Rattle.ask_seats.proofs.SessionLemmas.{stands-first, cut-first, goes-first, ok_map}
+use Rattle.ask_seats.proofs.SessionLemmas.{stands-first, cut-first, goes-first}
 use Rattle.ask_seats.proofs.sessions.session.Goals as goal
-
-if_ok_map : {T E : Type 0} {P Q : T → Type 0} (r : Result T E) → ((x : T) → P x → Q x) → IfOk r P → IfOk r Q
-if_ok_map (Ok x) f h = f x h
-if_ok_map (Err e) f h = tt
 
 on_ok_map : {T E Q : Type 0} {P : T → Type 0} (r : Result T E) → ((x : T) → P x → Q) → IfOk r P → OnOk r Q
 on_ok_map (Ok x) f h = f x h
 on_ok_map (Err e) f h = tt
-
-if_err_map : {T E : Type 0} {P Q : E → Type 0} (r : Result T E) → ((x : E) → P x → Q x) → IfErr r P → IfErr r Q
-if_err_map (Ok x) f h = tt
-if_err_map (Err e) f h = f e h
 
 none_has : (r : ℕ) → has r [] ≡ true → ⊥
 unfolding has
@@ -78,52 +58,19 @@ begins q p crew f c ls ranks old new e same w part none first = (
   keeps-none q ls ranks c part none first,
 )
 
-pub returns-clause-tensors : goal.returns-clause-tensors
-returns-clause-tensors g c =
-    let rest = c.in-Ok-talk.rest in let e = c.in-Ok-talk.ensures in
+pub returns : goal.returns
+returns g c =
+    let rest = c.in-Ok-talk.rest in let e = c.in-Ok-talk.ensures in let r = c.go_on.result in let went = c.go_on.ensures in
     let b = begins c.args.plan c.in-Ok.board.base.plan c.args.crew rest.finished rest.closed (take c.part_end-at.result c.args.lines.now) c.in-Ok.board.base.carried.items (g.W.Sink.state c.args.out.now).taken (g.W.Sink.state c.talk.new.out).taken
-    c.in-Ok.ensures.plan e.plan e.written c.part_end-at.ensures.part c.in-Ok.ensures.carried e.first in
-    if_ok_map c.go_on.result (λ x h. (h c.args.plan _ b.0 b.1).0) c.go_on.ensures.spoken
-
-pub returns-clause-bound : goal.returns-clause-bound
-returns-clause-bound g c =
-    let rest = c.in-Ok-talk.rest in let e = c.in-Ok-talk.ensures in
-    let b = begins c.args.plan c.in-Ok.board.base.plan c.args.crew rest.finished rest.closed (take c.part_end-at.result c.args.lines.now) c.in-Ok.board.base.carried.items (g.W.Sink.state c.args.out.now).taken (g.W.Sink.state c.talk.new.out).taken
-    c.in-Ok.ensures.plan e.plan e.written c.part_end-at.ensures.part c.in-Ok.ensures.carried e.first in
-    if_ok_map c.go_on.result (λ x h. (h c.args.plan _ b.0 b.1).1) c.go_on.ensures.spoken
-
-pub returns-clause-spoken : goal.returns-clause-spoken
-returns-clause-spoken g c =
-    let rest = c.in-Ok-talk.rest in let e = c.in-Ok-talk.ensures in
-    let b = begins c.args.plan c.in-Ok.board.base.plan c.args.crew rest.finished rest.closed (take c.part_end-at.result c.args.lines.now) c.in-Ok.board.base.carried.items (g.W.Sink.state c.args.out.now).taken (g.W.Sink.state c.talk.new.out).taken
-    c.in-Ok.ensures.plan e.plan e.written c.part_end-at.ensures.part c.in-Ok.ensures.carried e.first in
-    on_ok_map c.go_on.result (λ x h. (h c.args.plan _ b.0 b.1).2) c.go_on.ensures.spoken
-
-pub returns-clause-carried : goal.returns-clause-carried
-returns-clause-carried g c =
-    let rest = c.in-Ok-talk.rest in let e = c.in-Ok-talk.ensures in
-    let b = begins c.args.plan c.in-Ok.board.base.plan c.args.crew rest.finished rest.closed (take c.part_end-at.result c.args.lines.now) c.in-Ok.board.base.carried.items (g.W.Sink.state c.args.out.now).taken (g.W.Sink.state c.talk.new.out).taken
-    c.in-Ok.ensures.plan e.plan e.written c.part_end-at.ensures.part c.in-Ok.ensures.carried e.first in
-    if_ok_map c.go_on.result (λ x h. (h c.args.plan _ b.0 b.1).3) c.go_on.ensures.spoken
-
-pub returns-clause-fails : goal.returns-clause-fails
-returns-clause-fails g c =
-    let rest = c.in-Ok-talk.rest in let e = c.in-Ok-talk.ensures in
-    let b = begins c.args.plan c.in-Ok.board.base.plan c.args.crew rest.finished rest.closed (take c.part_end-at.result c.args.lines.now) c.in-Ok.board.base.carried.items (g.W.Sink.state c.args.out.now).taken (g.W.Sink.state c.talk.new.out).taken
-    c.in-Ok.ensures.plan e.plan e.written c.part_end-at.ensures.part c.in-Ok.ensures.carried e.first in
-    if_err_map c.go_on.result (λ x h. h c.args.plan (g.W.Sink.state c.args.out.now) c.requires.rises b.0 e.cause.kept) c.go_on.ensures.fails
-
-pub returns-clause-steady : goal.returns-clause-steady
-returns-clause-steady g c = ok_map c.go_on.result (λ h. h ∙ c.in-Ok-talk.ensures.cause.kept) c.go_on.ensures.steady
-
-pub returns-clause-table : goal.returns-clause-table
-returns-clause-table g c = if_ok_map c.go_on.result (λ x h. h.partial) c.go_on.ensures.left
-
-pub returns-clause-full : goal.returns-clause-full
-returns-clause-full g c = if_ok_map c.go_on.result (λ x h. h.full) c.go_on.ensures.left
-
-pub returns-clause-many : goal.returns-clause-many
-returns-clause-many g c = if_ok_map c.go_on.result (λ x h. h.many) c.go_on.ensures.left
-
-pub returns-clause-receipts : goal.returns-clause-receipts
-returns-clause-receipts g c = if_ok_map c.go_on.result (λ x h. h.receipts) c.go_on.ensures.left
+    c.in-Ok.ensures.plan e.plan e.written c.part_end-at.ensures.part c.in-Ok.ensures.carried e.first in record {
+      tensors = IfOk-weaker r _ _ (λ x h. (h c.args.plan _ b.0 b.1).0) went.spoken;
+      bound = IfOk-weaker r _ _ (λ x h. (h c.args.plan _ b.0 b.1).1) went.spoken;
+      table = IfOk-weaker r _ _ (λ x h. h.partial) went.left;
+      full = IfOk-weaker r _ _ (λ x h. h.full) went.left;
+      many = IfOk-weaker r _ _ (λ x h. h.many) went.left;
+      receipts = IfOk-weaker r _ _ (λ x h. h.receipts) went.left;
+      carried = IfOk-weaker r _ _ (λ x h. (h c.args.plan _ b.0 b.1).3) went.spoken;
+      spoken = on_ok_map r (λ x h. (h c.args.plan _ b.0 b.1).2) went.spoken;
+      steady = on_ok_weaker r (λ h. h ∙ e.cause.kept) went.steady;
+      fails = IfErr-weaker r _ _ (λ x h. h c.args.plan (g.W.Sink.state c.args.out.now) c.requires.rises b.0 e.cause.kept) went.fails;
+    }

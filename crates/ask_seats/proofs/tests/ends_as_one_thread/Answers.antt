@@ -1,7 +1,5 @@
 use Rattle.std.proofs.Common.{rules, ◌≡◌, subst, ℕ, zero, suc, Bool, true, false, List, [], ◌∷◌, take}
-use Rattle.ask_seats.specs.Asks.{FinishesOnce, Rises}
-use Rattle.command_words.specs.declared.line.Line.{Line}
-use Rattle.command_words.specs.declared.line.Line.TheVariants.{Ask, Finish, Grow}
+use Rattle.ask_seats.proofs.Names.{FinishesOnce, Rises, Line, Ask, Finish, Grow}
 use Rattle.ask_seats.proofs.tests.ends_as_one_thread.Goals as goal
 
 once-front : (b : Bool) (n : ℕ) (lines : List Line) → FinishesOnce b lines → FinishesOnce b (take n lines)

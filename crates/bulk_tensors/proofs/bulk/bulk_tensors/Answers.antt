@@ -1,5 +1,4 @@
-use Rattle.std.proofs.Common.{◌≡◌, ℕ, ◌+◌, ◌*◌, ◌-◌, ◌%◌, ◌<◌, cond, ap, sym, subst, ◌∙◌, refl, arith, rules, pos, ◌-ℤ◌}
-use Rattle.std.specs.Prelude.{None, Some}
+use Rattle.std.proofs.Common.{◌≡◌, ℕ, ◌+◌, ◌*◌, ◌-◌, ◌%◌, ◌<◌, cond, ap, sym, subst, ◌∙◌, refl, arith, rules, pos, ◌-ℤ◌, None, Some}
 use Rattle.std.proofs.lemmas.Result.{err_from_is_err_and}
 use Rattle.airy_math.specs.Rational.{◌/ℚ◌}
 use Rattle.airy_math.specs.Tensors.{SameEntries}

@@ -1,5 +1,4 @@
-use Rattle.std.proofs.Common.{◌≡◌, ◌+◌, ◌*◌}
-use Rattle.std.specs.Prelude.{None}
+use Rattle.std.proofs.Common.{◌≡◌, ◌+◌, ◌*◌, None}
 use Rattle.airy_math.specs.Tensors.{SameEntries}
 use Rattle.bulk_tensors.specs.Bulk.{after, first_refused}
 use Rattle.bulk_tensors.specs.Draws.{state}

@@ -1,5 +1,5 @@
 use Rattle.std.proofs.Common.{◌≡◌, ◌+◌, arith, refl, sym, ap, ◌∙◌}
-use Rattle.cell_words.specs.Levels.{cells_to}
+use Rattle.cell_words.proofs.Names.{cells_to}
 use Rattle.cell_words.proofs.LevelSteps.{cells_grow}
 use Rattle.cell_words.proofs.LevelLemmas.{level-ranks, level-inside}
 use Rattle.cell_words.proofs.FillerLemmas.{published-count, refilled}

@@ -1,5 +1,5 @@
 use Rattle.std.proofs.Common.{◌≡◌}
-use Rattle.cell_words.specs.LevelSeats.{IsFiller}
+use Rattle.cell_words.proofs.Names.{IsFiller}
 use Rattle.cell_words.proofs.filler.level_sweep.Given as goal
 
 abbrev pub invariant-loop : goal.invariant-loop

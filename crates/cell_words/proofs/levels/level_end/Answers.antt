@@ -1,9 +1,5 @@
 use Rattle.std.proofs.Common.{◌≡◌, ◌⊎◌, inl, inr, ℕ, ◌<◌, ◌≤◌, arith, ap, ◌∙◌}
-use Rattle.std.proofs.lemmas.Bool.{cases_lt}
-use Rattle.airy_math.specs.Levels.{euler_of}
-use Rattle.amp_plan.specs.Plans.{Planning, key_at}
-use Rattle.cell_words.specs.Layout.{cells}
-use Rattle.cell_words.specs.Levels.{cells_to}
+use Rattle.cell_words.proofs.Names.{cases_lt, euler_of, Planning, key_at, cells, cells_to}
 use Rattle.cell_words.proofs.LevelLemmas.{level-ranks, level-inside}
 use Rattle.cell_words.proofs.levels.level_end.Goals as goal
 

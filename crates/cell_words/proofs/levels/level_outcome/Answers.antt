@@ -1,20 +1,15 @@
-use Rattle.std.proofs.Common.{◌≡◌, ℕ, ◌<◌, ◌≤◌, ◌+◌, arith, sym, ap, subst, ◌∙◌, length}
-use Rattle.std.specs.Prelude.{slice_index}
-use Rattle.airy_math.specs.Keys.{Key, head_or, times, remove}
-use Rattle.airy_math.specs.Planned.{IsPlanned, planned}
-use Rattle.airy_math.specs.Levels.{euler_of}
+use Rattle.std.proofs.Common.{◌≡◌, ℕ, ◌<◌, ◌≤◌, ◌+◌, arith, ap, ◌∙◌, length}
+use Rattle.airy_math.specs.Planned.{planned}
 use Rattle.airy_math.specs.NeedsFirst.{NeedsLaw}
 use Rattle.airy_math.specs.Ranks.{RanksLaw, ListsPlanned, place_of}
 use Rattle.airy_math.specs.Terms.{terms, needs, StandsIn}
-use Rattle.amp_plan.specs.Needs.{AreNeeds}
-use Rattle.amp_plan.specs.Plans.{Planning, tensors_of, keys_of, key_at}
 use Rattle.amp_plan.specs.Ranked.{AreAllowed}
 use Rattle.amp_terms.specs.Outcomes.{ranks_named}
-use Rattle.amp_terms.specs.Pivots.{pivot_outcome, listed}
-use Rattle.amp_terms.proofs.NamedLemmas.{head-index, least_stands, rank_planned, allowed_places}
-use Rattle.cell_words.specs.Layout.{cells, all_outcomes, outcome_at}
-use Rattle.cell_words.specs.Levels.{cells_to}
+use Rattle.amp_terms.specs.Pivots.{listed}
+use Rattle.amp_terms.proofs.NamedLemmas.{rank_planned, allowed_places}
 use Rattle.amp_terms.proofs.OutcomeLemmas.{outcome_known, shown-below}
+use Rattle.cell_words.proofs.Names.{Key, head_or, remove, euler_of, AreNeeds, Planning, tensors_of, keys_of, key_at, cells, all_outcomes, outcome_at, cells_to}
+use Rattle.cell_words.proofs.PlanFacts.{least}
 use Rattle.cell_words.proofs.levels.level_outcome.Goals as goal
 
 -- what a rank of the next level names stands in the levels before
@@ -33,38 +28,20 @@ all_named P p k r first ordered lists are low within level h =
     allowed_places P (planned (tensors_of p) p.bound) (terms (tensors_of p) (head_or 0 key.idx) key.g (remove (head_or 0 key.idx) key.idx))
     (λ m s. h (place_of m (planned (tensors_of p) p.bound)) (are.lower r (place_of m (planned (tensors_of p) p.bound)) low (are.all r m low s)) (before p k r first ordered lists low within level m s))
 
-pub pivot_value-requires-clause-planned : goal.pivot_value-requires-clause-planned
-pivot_value-requires-clause-planned c =
-    subst (IsPlanned (tensors_of c.args.plan.now) c.args.plan.now.bound) (sym c.key-key.ensures) (rank_planned c.args.plan.now c.args.rank c.planned_fact.ensures c.requires.rank)
-
-pub pivot_value-requires-clause-pivot : goal.pivot_value-requires-clause-pivot
-pivot_value-requires-clause-pivot c =
-    let p = c.args.plan.now in
-    let key = c.key-key.result in
-    let h = subst (IsPlanned (tensors_of p) p.bound) (sym c.key-key.ensures) (rank_planned p c.args.rank c.planned_fact.ensures c.requires.rank) in
-    let first = head-index key.idx ∙ ap (λ l. slice_index l 0) (sym c.idx.ensures) in
-    subst (λ i. 0 < times i key.idx) first (least_stands (tensors_of p) p.bound key h)
-
-pub pivot_value-requires-clause-seen : goal.pivot_value-requires-clause-seen
-pivot_value-requires-clause-seen c =
-    let p = c.args.plan.now in
-    let key = c.key-key.result in
+pub pivot_value-requires : goal.pivot_value-requires
+pivot_value-requires c =
+    let p = c.args.plan.now in let r : ℕ = c.args.rank in
     let P : ℕ → Type 0 = λ q. q < length c.args.done.now in
-    let first = head-index key.idx ∙ ap (λ l. slice_index l 0) (sym c.idx.ensures) in
-    let named = all_named P p c.args.published c.args.rank c.needs_first.ensures c.ranks.ensures c.planned_fact.ensures c.needs_fact.ensures c.requires.rank c.requires.level.0 c.requires.level.1 (λ q _ low. omega (arith, low, c.requires.enough)) in
-    let here = subst (λ (k : Key). AreAllowed P (ranks_named (keys_of p) (terms (tensors_of p) (head_or 0 k.idx) k.g (remove (head_or 0 k.idx) k.idx)))) (sym c.key-key.ensures) named in
-    subst (λ i. AreAllowed P (ranks_named (keys_of p) (terms (tensors_of p) i key.g (remove i key.idx)))) first here
+    let named = all_named P p c.args.published r c.needs_first.ensures c.ranks.ensures c.planned_fact.ensures c.needs_fact.ensures c.requires.rank c.requires.level.0 c.requires.level.1 (λ q _ low. omega (arith, low, c.requires.enough)) in
+    let k = least P p r c.key-key.result _ c.planned_fact.ensures c.requires.rank c.key-key.ensures c.idx.ensures named in
+    record { planned = k.planned; pivot = k.pivot_in; seen = k.seen }
 
 pub returns : goal.returns
 unfolding all_outcomes
 returns c =
-    let p = c.args.plan.now in
-    let key = c.key-key.result in let r : ℕ = c.args.rank in let n : ℕ = length c.args.done.now in
-    let first = head-index key.idx ∙ ap (λ l. slice_index l 0) (sym c.idx.ensures) in
+    let p = c.args.plan.now in let r : ℕ = c.args.rank in let n : ℕ = length c.args.done.now in
     let shown = listed c.args.done.now in
-    c.pivot_value.ensures.outcome
-    ∙ ap (pivot_outcome (tensors_of p) (keys_of p) shown key) (sym first)
-    ∙ ap (λ (k : Key). pivot_outcome (tensors_of p) (keys_of p) shown k (head_or 0 k.idx)) c.key-key.ensures
-    ∙ outcome_known p r shown c.requires.rank
-    (all_named (λ q. (q < r) × (shown q ≡ outcome_at p q)) p c.args.published r c.needs_first.ensures c.ranks.ensures c.planned_fact.ensures c.needs_fact.ensures c.requires.rank c.requires.level.0 c.requires.level.1
-    (λ q less low. (less, ap (λ l. listed l q) c.requires.done ∙ shown-below p n q (omega (arith, low, c.requires.enough)))))
+    let P : ℕ → Type 0 = λ q. (q < r) × (shown q ≡ outcome_at p q) in
+    let named = all_named P p c.args.published r c.needs_first.ensures c.ranks.ensures c.planned_fact.ensures c.needs_fact.ensures c.requires.rank c.requires.level.0 c.requires.level.1
+    (λ q less low. (less, ap (λ l. listed l q) c.requires.done ∙ shown-below p n q (omega (arith, low, c.requires.enough)))) in
+    c.pivot_value.ensures.outcome ∙ (least P p r c.key-key.result _ c.planned_fact.ensures c.requires.rank c.key-key.ensures c.idx.ensures named).value shown ∙ outcome_known p r shown c.requires.rank named

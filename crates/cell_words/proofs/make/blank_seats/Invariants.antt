@@ -1,8 +1,5 @@
-use Rattle.std.proofs.Common.{◌≡◌, ℕ, ◌<◌, length}
-use Rattle.std.specs.Prelude.{slice_index_or}
-use Rattle.cell_words.specs.Deals.{IsBlank}
-use Rattle.cell_words.specs.Resuming.{carried_in}
-use Rattle.cell_words.specs.declared.countdown.CountSeat.{CountSeat}
+use Rattle.std.proofs.Common.{◌≡◌, ℕ, ◌<◌, length, slice_index_or}
+use Rattle.cell_words.proofs.Names.{IsBlank, carried_in, CountSeat}
 use Rattle.cell_words.proofs.make.blank_seats.Given as goal
 
 abbrev pub invariant-loop-number : goal.invariant-loop-number

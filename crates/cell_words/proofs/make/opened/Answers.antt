@@ -1,17 +1,11 @@
-use Rattle.std.proofs.Common.{◌≡◌, ℕ, ◌<◌, ◌++◌, ◌*◌, ◌≤◌, List, [], ◌∷◌, length, take, drop, get_or, arith, sym, ap, ◌∙◌, subst, append-nil, take_all, drop_of_length-le}
+use Rattle.std.proofs.Common.{◌≡◌, ℕ, ◌<◌, ◌*◌, ◌≤◌, [], ◌∷◌, length, get_or, arith, sym, ap, ◌∙◌, subst}
+use Rattle.cell_words.proofs.Names.{IsBlank, IsReady, cells, carried_in, AreResumed, View}
 use Rattle.cell_words.specs.Countdown.{Lawful, first_view}
-use Rattle.cell_words.specs.Deals.{IsBlank, IsReady}
-use Rattle.cell_words.specs.Layout.{cells}
-use Rattle.cell_words.specs.declared.view.View.{View}
 use Rattle.cell_words.proofs.OpeningLemmas.{begins}
 use Rattle.cell_words.proofs.ResumeLemmas.{are_carried, resumed_opening, first_length, first_ready, dealt_resumed, all_resumed}
-use Rattle.cell_words.specs.Resuming.{carried_in, AreResumed}
 use Rattle.cell_words.proofs.PlanFacts.{is_planned}
+use Rattle.cell_words.proofs.DealLemmas.{whole}
 use Rattle.cell_words.proofs.make.opened.Goals as goal
-
--- a slice of a whole Vec is written back
-whole : {X : Type 0} (n : ℕ) (xs ys : List X) → length xs ≡ n → length ys ≡ n → take n (xs ++ drop (length xs) ys) ≡ xs
-whole n xs ys a b = ap (λ l. take n (xs ++ l)) (drop_of_length-le ys {i = length xs} (omega arith)) ∙ ap (take n) (append-nil xs) ∙ take_all n xs (omega arith)
 
 pub of_words-requires : goal.of_words-requires
 of_words-requires c =

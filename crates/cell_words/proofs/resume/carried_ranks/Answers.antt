@@ -1,7 +1,6 @@
 use Rattle.std.proofs.Common.{rules, ◌≡◌, ◌++◌, ◌∷◌, [], ℕ, Bool, true, false, cond, sym, ap, ◌∙◌, arith, append-nil, length}
-use Rattle.airy_math.specs.Sums.{keep, below, count_from}
 use Rattle.amp_plan.proofs.RowLemmas.{keep-below_more}
-use Rattle.cell_words.specs.Resuming.{carries, carried_in}
+use Rattle.cell_words.proofs.Names.{keep, below, count_from, carries, carried_in}
 use Rattle.cell_words.proofs.resume.carried_ranks.Goals.{then-is_some+in_ok-push, else-is_some}
 use Rattle.cell_words.proofs.resume.carried_ranks.Goals as goal
 

@@ -1,7 +1,5 @@
-use Rattle.std.proofs.Common.{◌≡◌, ◌≤◌}
-use Rattle.std.specs.Prelude.{vec_capacity}
-use Rattle.airy_math.specs.Sums.{keep, below}
-use Rattle.cell_words.specs.Resuming.{carries}
+use Rattle.std.proofs.Common.{◌≡◌, ◌≤◌, vec_capacity}
+use Rattle.cell_words.proofs.Names.{keep, below, carries}
 use Rattle.cell_words.proofs.resume.carried_ranks.Given as goal
 
 abbrev pub invariant-loop-rank : goal.invariant-loop-rank

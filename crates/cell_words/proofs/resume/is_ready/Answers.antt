@@ -1,7 +1,5 @@
-use Rattle.std.proofs.Common.{rules, ◌≡◌, ℕ, true, false, not, nat_eq, sym, ap, ◌∙◌}
-use Rattle.std.specs.Prelude.{◌&&◌}
-use Rattle.amp_plan.specs.Needs.{needs_at}
-use Rattle.cell_words.specs.Resuming.{carries, carried_in}
+use Rattle.std.proofs.Common.{rules, ◌≡◌, ℕ, true, false, not, nat_eq, sym, ap, ◌∙◌, ◌&&◌}
+use Rattle.cell_words.proofs.Names.{needs_at, carries, carried_in}
 use Rattle.cell_words.specs.Starts.{all_in}
 use Rattle.cell_words.proofs.ResumeLemmas.{has_carried, all_counted}
 use Rattle.cell_words.proofs.resume.is_ready.Goals as goal

@@ -1,7 +1,5 @@
 use Rattle.std.proofs.Common.{rules, ◌≡◌, ℕ, suc, List, take, get_or, Bool, true, false, not, sym, ◌∙◌, arith, add-one}
-use Rattle.cell_words.specs.Countdown.{count_of}
-use Rattle.cell_words.specs.Resuming.{carries}
-use Rattle.cell_words.proofs.BookLemmas.{when, unless}
+use Rattle.cell_words.proofs.Names.{count_of, carries, when, unless}
 use Rattle.cell_words.proofs.ResumeLemmas.{count_more}
 use Rattle.cell_words.proofs.resume.needs_left.Goals.{then-is_none, else-is_none}
 use Rattle.cell_words.proofs.resume.needs_left.Goals as goal

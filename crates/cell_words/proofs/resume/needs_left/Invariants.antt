@@ -1,6 +1,5 @@
 use Rattle.std.proofs.Common.{◌≡◌, ◌≤◌, not, take}
-use Rattle.cell_words.specs.Countdown.{count_of}
-use Rattle.cell_words.specs.Resuming.{carries}
+use Rattle.cell_words.proofs.Names.{count_of, carries}
 use Rattle.cell_words.proofs.resume.needs_left.Given as goal
 
 abbrev pub invariant-loop-i : goal.invariant-loop-i

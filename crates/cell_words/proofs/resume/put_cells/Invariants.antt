@@ -1,6 +1,5 @@
-use Rattle.std.proofs.Common.{◌≡◌, ℕ, ◌*◌, ◌≤◌, length}
-use Rattle.std.specs.Prelude.{slice_index}
-use Rattle.cell_words.specs.Resuming.{AreResumed}
+use Rattle.std.proofs.Common.{◌≡◌, ℕ, ◌*◌, ◌≤◌, length, slice_index}
+use Rattle.cell_words.proofs.Names.{AreResumed}
 use Rattle.cell_words.proofs.resume.put_cells.Given as goal
 
 abbrev pub invariant-loop-rank : goal.invariant-loop-rank

@@ -1,8 +1,6 @@
 use Rattle.std.proofs.Common.{rules, ◌≡◌, ◌++◌, ◌∷◌, [], ℕ, Bool, true, false, cond, sym, ap, ◌∙◌, arith, append-nil}
-use Rattle.airy_math.specs.Sums.{keep, below, count_from}
 use Rattle.amp_plan.proofs.RowLemmas.{keep-below_more}
-use Rattle.cell_words.specs.Layout.{cells}
-use Rattle.cell_words.specs.Resuming.{carried_in}
+use Rattle.cell_words.proofs.Names.{keep, below, count_from, cells, carried_in}
 use Rattle.cell_words.specs.Starts.{can_start, starts}
 use Rattle.cell_words.proofs.resume.start_ranks.Goals.{then-is_ready+in_ok-push, else-is_ready}
 use Rattle.cell_words.proofs.resume.start_ranks.Goals as goal

@@ -1,6 +1,5 @@
 use Rattle.std.proofs.Common.{◌≡◌}
-use Rattle.airy_math.specs.Sums.{keep, below}
-use Rattle.cell_words.specs.Resuming.{carried_in}
+use Rattle.cell_words.proofs.Names.{keep, below, carried_in}
 use Rattle.cell_words.specs.Starts.{can_start}
 use Rattle.cell_words.proofs.resume.start_ranks.Given as goal
 

@@ -1,9 +1,5 @@
 use Rattle.std.proofs.Common.{◌≡◌, ℕ, zero, suc, ◌<◌, None, true, List, [], ◌∷◌, ◌++◌, length, get_or, refl, sym, ap, ap₂, ◌∙◌, subst, arith, rules}
-use Rattle.amp_plan.specs.Needs.{has}
-use Rattle.cell_words.specs.Deals.{AreAll}
-use Rattle.cell_words.specs.Seats.{IsSeatOf, seats_of, held_of, number_of}
-use Rattle.cell_words.specs.declared.countdown.Countdown.{Countdown}
-use Rattle.cell_words.specs.declared.countdown.CountSeat.{CountSeat}
+use Rattle.cell_words.proofs.Names.{has, AreAll, IsSeatOf, seats_of, held_of, number_of, Countdown, CountSeat}
 use Rattle.cell_words.proofs.tests.close_two.Goals as goal
 
 below_two : (k : ℕ) → k < 2 → has k (0 ∷ 1 ∷ []) ≡ true

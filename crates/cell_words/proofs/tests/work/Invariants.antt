@@ -1,5 +1,5 @@
 use Rattle.std.proofs.Common.{◌≡◌, None}
-use Rattle.cell_words.specs.Seats.{IsSeatOf, held_of, number_of}
+use Rattle.cell_words.proofs.Names.{IsSeatOf, held_of, number_of}
 use Rattle.cell_words.proofs.tests.work.Given as goal
 
 abbrev pub invariant-loop-rank : goal.invariant-loop-rank

@@ -3,8 +3,8 @@ use mir.Syntax.{w128}
 use Rattle.airy_math.specs.Rational.{◌/ℚ◌}
 use Rattle.std.specs.Int.{cast_unsigned, cast_signed}
 use Rattle.std.proofs.lemmas.Int.{to_z-of_z}
-use Rattle.amp_terms.specs.declared.Outcome.{Outcome}
-use Rattle.cell_words.specs.Words.{first_number, second_number, word_of, IsSized, AreWordsOfOne}
+use Rattle.cell_words.proofs.Names.{Outcome, word_of, IsSized}
+use Rattle.cell_words.specs.Words.{first_number, second_number, AreWordsOfOne}
 use Rattle.cell_words.proofs.WordLemmas.{number_back, first_fits, second_fits, value_back, value_lowest, AreLowest}
 use Rattle.cell_words.proofs.words.decode.Goals as goal
 
@@ -26,24 +26,12 @@ numbers_lowest : (a b c d : ℕ) → AreWordsOfOne a b c d → (n m : ℤ) → l
 numbers_lowest a b c d r n m fn fm en em some =
     value_lowest r.outcome n m r.sized (first_is n a b r.outcome r.sized fn en r.first r.second) (second_is m c d r.outcome r.sized fm em r.third r.fourth) some
 
-pub of_lowest-requires-clause-lowest : goal.of_lowest-requires-clause-lowest
-of_lowest-requires-clause-lowest c =
+pub of_lowest-requires : goal.of_lowest-requires
+of_lowest-requires c =
     let k = numbers_lowest c.args.a c.args.b c.args.c c.args.d c.requires c.number.result c.number-second.result c.number.type_inv c.number-second.type_inv c.number.ensures c.number-second.ensures (λ z. c.if-second-eq0.false (ap (cast_unsigned w128) z)) in
     let n : to_z w128 (of_z w128 c.number.result) ≡ c.number.result = search rules in
     let m : c.unsigned_abs.result ≡ unsigned_abs c.number-second.result = search rules in
-    rw (n, m) k.lowest
-
-pub of_lowest-requires-clause-num_fits : goal.of_lowest-requires-clause-num_fits
-of_lowest-requires-clause-num_fits c =
-    let k = numbers_lowest c.args.a c.args.b c.args.c c.args.d c.requires c.number.result c.number-second.result c.number.type_inv c.number-second.type_inv c.number.ensures c.number-second.ensures (λ z. c.if-second-eq0.false (ap (cast_unsigned w128) z)) in
-    let n : to_z w128 (of_z w128 c.number.result) ≡ c.number.result = search rules in
-    rw n k.num_fits
-
-pub of_lowest-requires-clause-den_fits : goal.of_lowest-requires-clause-den_fits
-of_lowest-requires-clause-den_fits c =
-    let k = numbers_lowest c.args.a c.args.b c.args.c c.args.d c.requires c.number.result c.number-second.result c.number.type_inv c.number-second.type_inv c.number.ensures c.number-second.ensures (λ z. c.if-second-eq0.false (ap (cast_unsigned w128) z)) in
-    let m : c.unsigned_abs.result ≡ unsigned_abs c.number-second.result = search rules in
-    rw m k.den_fits
+    record { lowest = rw (n, m) k.lowest; positive = rw m k.positive; num_fits = rw n k.num_fits; den_fits = rw m k.den_fits }
 
 pub returns : goal.returns
 returns c = λ o s e f g h.

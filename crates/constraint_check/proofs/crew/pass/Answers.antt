@@ -1,20 +1,17 @@
-use Rattle.std.proofs.Common.{subst, sym, ◌∙◌, arith}
-use Rattle.airy_math.specs.Planned.{IsPlanned}
-use Rattle.amp_plan.specs.Plans.{Planning, tensors_of, keys_of, key_at}
-use Rattle.constraint_check.specs.Ends.{values_of, verdict_from}
-use Rattle.constraint_check.specs.Pivots.{verdict_after}
-use Rattle.constraint_check.proofs.KeysLeft.{key_decides}
+use Rattle.std.proofs.Common.{sym, ◌∙◌, le_refl, le_of_lt, refl}
+use Rattle.constraint_check.proofs.EndLaws.{verdict_is}
+use Rattle.constraint_check.proofs.FullTables.{shows_plan}
 use Rattle.constraint_check.proofs.crew.pass.Goals as goal
 
-pub check_pivots-requires-clause-planned : goal.check_pivots-requires-clause-planned
-unfolding keys_of key_at
-check_pivots-requires-clause-planned c =
-    let p : Planning = c.args.plan.now in
-    subst (IsPlanned (tensors_of p) p.bound) (sym c.key-key.ensures) ((c.planned_once.ensures (tensors_of p) p.bound).only c.loop-rank.rank (let t = c.loop-rank-test.true in let u = c.requires.to in omega arith))
+pub first_failing-requires-clause-shows : goal.first_failing-requires-clause-shows
+first_failing-requires-clause-shows c = (shows_plan c.args.plan.now c.args.table.now c.requires.values).shows
 
-pub loop-rank-preserved : goal.loop-rank-preserved
-unfolding verdict_after key_at verdict_from
-loop-rank-preserved c =
-    let p : Planning = c.args.plan.now in
-    c.loop-rank.invariant
-    ∙ key_decides (tensors_of p) (values_of p) (keys_of p) c.loop-rank.rank (let t = c.loop-rank-test.true in let u = c.requires.to in omega arith) c.key-key.result c.key-key.ensures c.key_value-value.result c.check_pivots.result c.check_pivots.ensures _ c.in-Agree.is
+pub returns-in-None : goal.returns-in-None
+returns-in-None c =
+    let p = c.args.plan.now in let t = shows_plan p c.args.table.now c.requires.values in
+    record { low = c.requires.from; high = le_refl _; passed = verdict_is p _ t.numbers c.args.from _ c.in-None.ensures ∙ sym (verdict_is p _ t.numbers c.args.to _ refl) }
+
+pub returns-in-Some : goal.returns-in-Some
+returns-in-Some c =
+    let p = c.args.plan.now in let t = shows_plan p c.args.table.now c.requires.values in let f = c.in-Some.ensures in
+    record { low = f.low; high = le_of_lt f.high; passed = verdict_is p _ t.numbers c.args.from _ f.passed ∙ sym (verdict_is p _ t.numbers _ _ refl) }

@@ -1,21 +1,13 @@
-use Rattle.std.proofs.Common.{sym, ap, ◌∙◌}
-use Rattle.series_law.specs.Check.{judged}
-use Rattle.constraint_check.specs.Pivots.{verdict_after}
-use Rattle.constraint_check.proofs.EqualNumbers.{eq-same, judged_same, judged_other}
+use Rattle.std.proofs.Common.{sym, ◌∙◌}
+use Rattle.airy_math.proofs.SameNumbers.{eq-same}
+use Rattle.constraint_check.proofs.StepLemmas.{fails_missing, agrees_alone, fails_alone}
 use Rattle.constraint_check.proofs.pivots.check_pivot.Goals as goal
 
-pub returns-in-None : goal.returns-in-None
-unfolding judged verdict_after
-returns-in-None c = λ next. ap (λ s. judged c.args.key.now c.args.value c.args.pivot s next) (sym c.pivot_sum.ensures ∙ c.in-None.is)
+pub returns-in-None-clause-fails : goal.returns-in-None-clause-fails
+returns-in-None-clause-fails g c = fails_missing c.args.value c.args.pivot _ (sym c.pivot_sum.ensures.sum ∙ c.in-None.is)
 
-pub returns-in-Some : goal.returns-in-Some
-unfolding verdict_after
-returns-in-Some c = λ next.
-    ap (λ s. judged c.args.key.now c.args.value c.args.pivot s next) (sym c.pivot_sum.ensures ∙ c.in-Some.is)
-    ∙ judged_same c.args.key.now c.args.value c.args.pivot c.in-Some.sum next (sym (eq-same c.in-Some.sum c.args.value) ∙ sym c.eq.ensures ∙ c.if-eq.true)
+pub returns-in-Some-clause-fails : goal.returns-in-Some-clause-fails
+returns-in-Some-clause-fails g c = agrees_alone c.args.value c.args.pivot _ c.in-Some.sum (sym c.pivot_sum.ensures.sum ∙ c.in-Some.is) (sym (eq-same c.in-Some.sum c.args.value) ∙ sym c.eq.ensures ∙ c.if-eq.true)
 
-pub returns-in-Some-2 : goal.returns-in-Some-2
-unfolding verdict_after
-returns-in-Some-2 c = λ next.
-    ap (λ s. judged c.args.key.now c.args.value c.args.pivot s next) (sym c.pivot_sum.ensures ∙ c.in-Some.is)
-    ∙ judged_other c.args.key.now c.args.value c.args.pivot c.in-Some.sum next (sym (eq-same c.in-Some.sum c.args.value) ∙ sym c.eq.ensures ∙ c.if-eq.false)
+pub returns-in-Some-2-clause-fails : goal.returns-in-Some-2-clause-fails
+returns-in-Some-2-clause-fails g c = fails_alone c.args.value c.args.pivot _ c.in-Some.sum (sym c.pivot_sum.ensures.sum ∙ c.in-Some.is) (sym (eq-same c.in-Some.sum c.args.value) ∙ sym c.eq.ensures ∙ c.if-eq.false)

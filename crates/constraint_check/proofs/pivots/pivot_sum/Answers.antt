@@ -1,18 +1,17 @@
 use Rattle.std.proofs.Common.{ap, ◌∙◌}
-use Rattle.amp_plan.specs.Plans.{Planning, tensors_of, keys_of}
+use Rattle.amp_plan.specs.Plans.{tensors_of, keys_of, rank_at}
+use Rattle.airy_math.specs.Ranks.{place_of}
 use Rattle.amp_terms.specs.Tables.{value_of}
-use Rattle.constraint_check.specs.Ends.{values_of, outcomes_of}
-use Rattle.constraint_check.proofs.PivotFacts.{reads_within, sum_is}
+use Rattle.series_law.proofs.PivotsLaw.{outcome_shown, value_none}
+use Rattle.constraint_check.specs.Pivots.{numbers_shown}
+use Rattle.constraint_check.proofs.StepLemmas.{allowed_within}
 use Rattle.constraint_check.proofs.pivots.pivot_sum.Goals as goal
 
 pub pivot_value-requires-clause-seen : goal.pivot_value-requires-clause-seen
-unfolding keys_of
-pivot_value-requires-clause-seen c =
-    let p : Planning = c.args.plan.now in
-    reads_within (tensors_of p) p.bound (c.planned_once.ensures (tensors_of p) p.bound) (c.ranks.ensures (tensors_of p) p.bound) c.args.key.now c.requires.planned c.args.pivot c.requires.pivot _ c.requires.values.long
+pivot_value-requires-clause-seen g c = allowed_within _ _ _ c.requires.shows.within c.names_ranks.ensures
 
-pub returns : goal.returns
-unfolding keys_of values_of outcomes_of
-returns c =
-    let p : Planning = c.args.plan.now in
-    c.value.ensures ∙ ap value_of c.pivot_value.ensures.outcome ∙ sum_is (tensors_of p) p.bound (c.planned_once.ensures (tensors_of p) p.bound) (c.ranks.ensures (tensors_of p) p.bound) c.args.key.now c.requires.planned c.args.pivot c.requires.pivot c.args.table.now c.requires.values.outcomes c.requires.values.values c.requires.values.long
+pub returns-clause-sum : goal.returns-clause-sum
+unfolding numbers_shown rank_at place_of keys_of
+returns-clause-sum g c =
+    c.value.ensures ∙ ap value_of (c.pivot_value.ensures.outcome ∙ outcome_shown _ _ c.requires.shows.values (tensors_of c.args.plan.now) (keys_of c.args.plan.now) c.args.key.now c.args.pivot c.names_ranks.ensures)
+    ∙ value_none _

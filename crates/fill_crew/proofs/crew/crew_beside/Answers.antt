@@ -1,7 +1,7 @@
-use Rattle.std.proofs.Common.{rules, ◌≡◌, ℕ, ◌<◌, List, length, map, get_or, arith, sym, ap, ◌∙◌, subst}
-use Rattle.std.proofs.lemmas.List.{length-map}
+use Rattle.std.proofs.Common.{◌≡◌, ◌<◌, length, map, get_or, arith, sym, ap, ◌∙◌, subst}
+use Rattle.cell_words.proofs.DealLemmas.{whole}
+use Rattle.cell_words.proofs.Names.{length-map}
 use Rattle.fill_crew.specs.Crews.{IsIdle, HasWorked}
-use Rattle.fill_crew.proofs.NextLemmas.{whole}
 use Rattle.fill_crew.proofs.CrewLemmas.{unmap, map-both}
 use Rattle.fill_crew.proofs.crew.crew_beside.Goals as goal
 

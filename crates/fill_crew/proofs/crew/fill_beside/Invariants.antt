@@ -1,4 +1,4 @@
-use Rattle.cell_words.specs.Layout.{cells}
+use Rattle.cell_words.proofs.Names.{cells}
 use Rattle.fill_crew.proofs.crew.fill_beside.Given as goal
 
 abbrev pub ghosts-crew_beside : goal.ghosts-crew_beside

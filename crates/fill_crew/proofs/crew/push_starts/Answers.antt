@@ -1,5 +1,5 @@
-use Rattle.std.proofs.Common.{◌≡◌, ℕ, ◌<◌, List, length, get_or, sym, subst}
-use Rattle.cell_words.specs.Layout.{cells}
+use Rattle.std.proofs.Common.{ℕ, ◌<◌, List, length, get_or, sym, subst}
+use Rattle.cell_words.proofs.Names.{cells}
 use Rattle.fill_crew.proofs.CrewLemmas.{start_low}
 use Rattle.fill_crew.proofs.crew.push_starts.Goals as goal
 

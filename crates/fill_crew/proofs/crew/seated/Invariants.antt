@@ -1,4 +1,4 @@
-use Rattle.std.proofs.Common.{◌≡◌, ℕ, ◌<◌, ◌≤◌, ◌+◌, length, map, vec_len, vec_capacity}
+use Rattle.std.proofs.Common.{◌≡◌, ◌≤◌, ◌+◌, length, map, vec_len, vec_capacity}
 use Rattle.fill_crew.proofs.crew.seated.Given as goal
 
 abbrev pub invariant-loop-seat : goal.invariant-loop-seat

@@ -1,14 +1,13 @@
 use Rattle.std.proofs.Common.{◌≡◌, ℕ, arith, refl, [], ◌∷◌, ◌++◌, Option, None, sym, ap, ◌∙◌, subst, append-nil}
-use Rattle.amp_plan.specs.Plans.{Planning}
 use Rattle.cell_words.specs.Claims.{Claims}
-use Rattle.cell_words.specs.Seats.{view_of}
-use Rattle.cell_words.specs.declared.view.View.{View}
 use Rattle.cell_words.specs.declared.claim.Claim.{Claim}
 use Rattle.cell_words.specs.declared.claim.Claim.TheVariants.{Mine, Needs, Taken, Done}
+use Rattle.cell_words.specs.declared.view.View.{View}
+use Rattle.cell_words.proofs.Names.{Planning, view_of}
 use Rattle.fill_crew.specs.Crews.{HasWorked}
 use Rattle.fill_crew.proofs.CrewLemmas.{worked_more}
-use Rattle.fill_crew.proofs.crew.work.Goals as goal
 use Rattle.fill_crew.proofs.crew.work.Goals.{in-Mine, in_default-claim}
+use Rattle.fill_crew.proofs.crew.work.Goals as goal
 
 -- who doesn't claim a cell holds none
 holds_none : (p : Planning) (r : ℕ) (old new : View) (held : Option ℕ) (x : Claim) → Claims p r old new held x → (x ≡ Mine → ⊥) → held ≡ None

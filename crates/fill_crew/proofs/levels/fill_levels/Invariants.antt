@@ -1,5 +1,5 @@
 use Rattle.std.proofs.Common.{◌≡◌}
-use Rattle.cell_words.specs.LevelSeats.{IsFiller}
+use Rattle.cell_words.proofs.Names.{IsFiller}
 use Rattle.fill_crew.proofs.levels.fill_levels.Given as goal
 
 abbrev pub invariant-loop : goal.invariant-loop

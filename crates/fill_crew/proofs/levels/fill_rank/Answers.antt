@@ -1,8 +1,7 @@
-use Rattle.std.proofs.Common.{◌≡◌, ℕ, ◌<◌, ◌≤◌, ◌+◌, arith, sym, ap, ap₂, ◌∙◌, subst, length, take}
-use Rattle.cell_words.specs.Layout.{cells, all_outcomes, outcome_at}
-use Rattle.cell_words.specs.Levels.{cells_to}
+use Rattle.std.proofs.Common.{◌+◌, arith, sym, ap₂, ◌∙◌, take}
 use Rattle.cell_words.proofs.LevelLemmas.{level-inside}
-use Rattle.fill_crew.proofs.NextLemmas.{published-many, is-next, IsNext}
+use Rattle.cell_words.proofs.Names.{all_outcomes, outcome_at}
+use Rattle.fill_crew.proofs.NextLemmas.{published-many, is-next}
 use Rattle.fill_crew.proofs.levels.fill_rank.Goals as goal
 
 pub overflow_add-rank : goal.overflow_add-rank

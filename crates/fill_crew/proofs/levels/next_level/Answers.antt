@@ -1,10 +1,10 @@
-use Rattle.std.proofs.Common.{◌≡◌, ℕ, ◌<◌, ◌≤◌, ◌+◌, arith, sym, ap, ap₂, ◌∙◌, subst, length}
-use Rattle.std.proofs.lemmas.List.{length-replicate}
-use Rattle.cell_words.specs.Layout.{outcome_at}
-use Rattle.cell_words.specs.Levels.{cells_to}
+use Rattle.cell_words.proofs.FillerLemmas.{many}
+use Rattle.std.proofs.Common.{◌≡◌, ◌≤◌, ◌+◌, arith, sym, ap, ap₂, ◌∙◌, subst, length}
+use Rattle.cell_words.proofs.DealLemmas.{whole}
 use Rattle.cell_words.proofs.LevelSteps.{cells_grow}
 use Rattle.cell_words.proofs.LevelLemmas.{level-inside}
-use Rattle.fill_crew.proofs.NextLemmas.{many, whole, is-level}
+use Rattle.cell_words.proofs.Names.{outcome_at, cells_to}
+use Rattle.fill_crew.proofs.NextLemmas.{is-level}
 use Rattle.fill_crew.proofs.levels.next_level.Goals as goal
 
 pub overflow_cast-start : goal.overflow_cast-start

@@ -1,8 +1,6 @@
-use Rattle.std.proofs.Common.{rules, ◌≡◌, ℕ, ◌<◌, length, Some, None, cond, arith, sym, ap, ◌∙◌, subst}
-use Rattle.amp_plan.specs.Needs.{has}
-use Rattle.cell_words.specs.Layout.{cells, outcome_at}
-use Rattle.cell_words.specs.Deals.{AreAll, receipts_of}
-use Rattle.fill_crew.proofs.NextLemmas.{whole}
+use Rattle.std.proofs.Common.{◌≡◌, length, Some, None, cond, arith, sym, ap, ◌∙◌, subst}
+use Rattle.cell_words.proofs.DealLemmas.{whole}
+use Rattle.cell_words.proofs.Names.{has, outcome_at, AreAll, receipts_of}
 use Rattle.fill_crew.proofs.CrewLemmas.{full_is}
 use Rattle.fill_crew.proofs.sweeps.close_swept.Goals as goal
 

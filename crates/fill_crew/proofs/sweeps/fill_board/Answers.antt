@@ -1,6 +1,5 @@
-use Rattle.std.proofs.Common.{rules, ◌≡◌, ℕ, ◌<◌, ◌++◌, ◌∷◌, [], length, arith, refl, sym, ap, ◌∙◌, subst}
-use Rattle.cell_words.specs.Deals.{AreAll}
-use Rattle.fill_crew.specs.Crews.{IsIdle, IsBack}
+use Rattle.std.proofs.Common.{rules, ◌≡◌, ◌++◌, ◌∷◌, [], arith, sym, subst}
+use Rattle.cell_words.proofs.Names.{AreAll}
 use Rattle.fill_crew.proofs.CrewLemmas.{rest_idle, last_idle, rejoined, idle_back}
 use Rattle.fill_crew.proofs.sweeps.fill_board.Goals as goal
 

@@ -1,8 +1,5 @@
-use Rattle.std.proofs.Common.{◌≡◌, ℕ, ◌<◌, ◌+◌, true, arith, refl, sym, ap, ◌∙◌, subst}
-use Rattle.amp_plan.specs.Plans.{Planning, tensors_of, keys_of}
-use Rattle.amp_plan.specs.Needs.{has, needs_at, AreNeeds}
-use Rattle.cell_words.specs.Layout.{cells}
-use Rattle.fill_crew.specs.Crews.{AreSwept}
+use Rattle.std.proofs.Common.{◌≡◌, ℕ, ◌<◌, true, arith, ap, ◌∙◌}
+use Rattle.cell_words.proofs.Names.{Planning, tensors_of, keys_of, has, needs_at, AreNeeds, cells}
 use Rattle.fill_crew.proofs.CrewLemmas.{swept_none, swept_more}
 use Rattle.fill_crew.proofs.sweeps.sweep.Goals as goal
 

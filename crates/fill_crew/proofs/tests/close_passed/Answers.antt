@@ -1,6 +1,6 @@
 use Rattle.std.proofs.Common.{◌≡◌, length, arith, sym, ap, ◌∙◌, subst}
-use Rattle.cell_words.specs.Deals.{AreAll}
-use Rattle.fill_crew.proofs.NextLemmas.{whole}
+use Rattle.cell_words.proofs.DealLemmas.{whole}
+use Rattle.cell_words.proofs.Names.{AreAll}
 use Rattle.fill_crew.proofs.tests.close_passed.Goals as goal
 
 pub pass_and_sweep-requires-clause-seats : goal.pass_and_sweep-requires-clause-seats

@@ -1,5 +1,5 @@
 use Rattle.std.proofs.Common.{◌≡◌}
-use Rattle.cell_words.specs.Seats.{number_of}
+use Rattle.cell_words.proofs.Names.{number_of}
 use Rattle.fill_crew.specs.Crews.{IsIdle}
 use Rattle.fill_crew.proofs.tests.pass.Given as goal
 

@@ -1,5 +1,4 @@
-use Rattle.std.proofs.Common.{arith, inl, inr, ◌≡◌, ◌*◌, ◌%◌, ◌<◌, ◌∙◌, sym, ap, subst, ℕ}
-use Rattle.std.specs.Prelude.{◌^◌, min}
+use Rattle.std.proofs.Common.{arith, inl, inr, ◌≡◌, ◌*◌, ◌%◌, ◌<◌, ◌∙◌, sym, ap, subst, ℕ, ◌^◌, min}
 use Rattle.airy_math.specs.Gcd.{gcd}
 use Rattle.frac128.proofs.GcdLemmas.{gcd-positive}
 use Rattle.frac128.proofs.TwosLemmas.{gcd-zero_left, gcd-zero_right, gcd-one, gcd-odd_parts, shifted_word}

@@ -1,5 +1,4 @@
-use Rattle.std.proofs.Common.{arith, ◌<◌}
-use Rattle.std.specs.Prelude.{◌^◌}
+use Rattle.std.proofs.Common.{arith, ◌<◌, ◌^◌}
 use Rattle.frac128.proofs.TwosLemmas.{zeros-split}
 use Rattle.frac128.proofs.divisors.long_odd_part.Goals as goal
 

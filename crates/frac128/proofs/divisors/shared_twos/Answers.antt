@@ -1,5 +1,4 @@
-use Rattle.std.proofs.Common.{rules, arith, ◌≡◌, ◌≤◌, ◌<◌, ap, ◌∙◌}
-use Rattle.std.specs.Prelude.{◌^◌, min}
+use Rattle.std.proofs.Common.{rules, arith, ◌≡◌, ◌≤◌, ◌<◌, ap, ◌∙◌, ◌^◌, min}
 use Rattle.std.specs.Int.Count.{count_trailing_zeros}
 use Rattle.frac128.proofs.TwosLemmas.{gcd-power}
 use Rattle.frac128.proofs.divisors.shared_twos.Goals as goal

@@ -1,5 +1,4 @@
-use Rattle.std.proofs.Common.{rules, arith, sym, ◌≡◌, ◌+◌, ◌-◌, ◌*◌, ◌/◌}
-use Rattle.std.specs.Prelude.{◌^◌}
+use Rattle.std.proofs.Common.{rules, arith, sym, ◌≡◌, ◌+◌, ◌-◌, ◌*◌, ◌/◌, ◌^◌}
 use Rattle.frac128.proofs.ProductLemmas.{none_by_num, none_by_den, some_sized, lowest_sizes-dyadic, power-over, power-within}
 use Rattle.frac128.proofs.products.dyadic_product.Goals as goal
 use Rattle.frac128.proofs.products.dyadic_product.Goals.{then-num-ne0-via-then-num-ne0, then-num-ne0-via-else-num-ne0+then-twos-gt126}

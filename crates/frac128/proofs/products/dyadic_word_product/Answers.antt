@@ -1,5 +1,4 @@
-use Rattle.std.proofs.Common.{arith, sym, ◌≡◌, ◌+◌, ◌-◌, ◌*◌, ◌/◌}
-use Rattle.std.specs.Prelude.{◌^◌}
+use Rattle.std.proofs.Common.{arith, sym, ◌≡◌, ◌+◌, ◌-◌, ◌^◌}
 use Rattle.frac128.proofs.ProductLemmas.{lowest_sizes-dyadic, word_sized, power-within}
 use Rattle.frac128.proofs.products.dyadic_word_product.Goals as goal
 

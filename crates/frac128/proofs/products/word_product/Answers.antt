@@ -1,5 +1,4 @@
-use Rattle.std.proofs.Common.{◌∙◌, ap₂, sym, refl, ◌*◌, ℕ}
-use Rattle.std.specs.Prelude.{Some}
+use Rattle.std.proofs.Common.{◌∙◌, ap₂, sym, refl, ◌*◌, ℕ, Some}
 use Rattle.frac128.proofs.ProductLemmas.{lowest_sizes-crossed, words_sized}
 use Rattle.frac128.proofs.products.word_product.Goals as goal
 

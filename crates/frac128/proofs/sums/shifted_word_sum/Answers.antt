@@ -1,7 +1,5 @@
-use Rattle.std.proofs.Common.{rules, sym, ◌≡◌, ◌/◌, pos, ◌*ℤ◌, ◌+ℤ◌, unsigned_abs, to_z, of_z}
-use Rattle.std.specs.Int.{w128}
-use Rattle.std.specs.Prelude.{◌^◌, int_div}
-use Rattle.airy_math.specs.Gcd.{gcd}
+use Rattle.std.proofs.Common.{rules, sym, ◌≡◌, ◌/◌, pos, ◌*ℤ◌, ◌+ℤ◌, unsigned_abs, to_z, of_z, ◌^◌, int_div}
+use Rattle.frac128.proofs.Words.{w128, gcd}
 use Rattle.frac128.proofs.SumLemmas.{word_lowest}
 use Rattle.frac128.proofs.SignLemmas.{word_size}
 use Rattle.frac128.proofs.sums.shifted_word_sum.Goals as goal

@@ -1,5 +1,4 @@
-use Rattle.std.proofs.Common.{rules, arith, sym, ap, ap₂, ◌∙◌, ◌<◌, ◌+◌, get_or}
-use Rattle.std.proofs.lemmas.List.{take_all}
+use Rattle.std.proofs.Common.{rules, arith, sym, ap, ap₂, ◌∙◌, ◌<◌, ◌+◌, get_or, take_all}
 use Rattle.key_index.specs.Codes.{code_of_list}
 use Rattle.key_index.proofs.CodeLemmas.{list_code-none, list_code-next, list_code-taken, index_code-small}
 use Rattle.key_index.proofs.codes.list_code.Goals as goal

@@ -1,7 +1,5 @@
-use Rattle.std.proofs.Common.{rules, ◌≡◌, subst}
-use Rattle.std.specs.Prelude.{codes}
-use Rattle.run_reports.specs.Report.{Ends, refusal}
-use Rattle.run_reports.specs.Tables.{pivot_text}
+use Rattle.std.proofs.Common.{rules, ◌≡◌, subst, codes}
+use Rattle.run_reports.proofs.Names.{Ends, refusal, pivot_text}
 use Rattle.run_reports.proofs.pivots.refuse_pivot.Goals as goal
 
 pub returns : goal.returns

@@ -1,7 +1,5 @@
-use Rattle.std.proofs.Common.{rules, ◌≡◌, subst}
-use Rattle.std.specs.Prelude.{codes}
-use Rattle.run_reports.specs.Report.{Ends, refusal}
-use Rattle.run_reports.specs.Relations.{place_text, relations_report}
+use Rattle.std.proofs.Common.{rules, ◌≡◌, subst, codes}
+use Rattle.run_reports.proofs.Names.{Ends, refusal, place_text, relations_report}
 use Rattle.run_reports.proofs.relations.say_overflow.Goals as goal
 
 pub returns : goal.returns

@@ -1,6 +1,5 @@
-use Rattle.std.proofs.Common.{◌∙◌, subst}
-use Rattle.std.specs.Prelude.{List, ℕ, codes}
-use Rattle.run_reports.specs.Report.{Ends, refusal}
+use Rattle.std.proofs.Common.{◌∙◌, subst, List, ℕ, codes}
+use Rattle.run_reports.proofs.Names.{Ends, refusal}
 use Rattle.run_reports.proofs.report.refuse_word.Goals as goal
 
 pub returns : goal.returns

@@ -1,8 +1,5 @@
 use Rattle.std.proofs.Common.{◌∙◌, ap, inl, subst, sym}
-use Rattle.amp_plan.specs.Plans.{Planning, tensors_of}
-use Rattle.amp_terms.specs.Tables.{full_table}
-use Rattle.run_reports.specs.Report.{Ends}
-use Rattle.run_reports.specs.Forms.{formed_cells}
+use Rattle.run_reports.proofs.Names.{Planning, tensors_of, full_table, Ends, formed_cells}
 use Rattle.run_reports.proofs.tables.fill_and_print.Goals as goal
 
 pub check_and_print-requires-clause-full : goal.check_and_print-requires-clause-full

@@ -1,6 +1,6 @@
 use Rattle.std.proofs.Common.{◌≡◌, ◌-◌, rules, length}
-use Rattle.amp_plan.specs.Plans.{keys_of, key_at}
-use Rattle.run_reports.specs.Forms.{last_of}
+use Rattle.run_reports.proofs.Names.{keys_of, last_of}
+use Rattle.amp_plan.specs.Plans.{key_at}
 use Rattle.run_reports.proofs.RowLemmas.{row-none}
 use Rattle.run_reports.proofs.FormLemmas.{last-none}
 use Rattle.run_reports.proofs.tables.write_last.Goals as goal

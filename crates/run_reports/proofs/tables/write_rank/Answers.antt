@@ -1,7 +1,5 @@
-use Rattle.std.proofs.Common.{◌≡◌, rules}
-use Rattle.std.specs.Prelude.{Some, None}
-use Rattle.amp_terms.specs.Tables.{value_at}
-use Rattle.run_reports.specs.Tables.{row_text}
+use Rattle.std.proofs.Common.{◌≡◌, rules, Some, None}
+use Rattle.run_reports.proofs.Names.{value_at, row_text}
 use Rattle.run_reports.proofs.RowLemmas.{row-none}
 use Rattle.run_reports.proofs.tables.write_rank.Goals as goal
 

@@ -1,7 +1,6 @@
-use Rattle.std.proofs.Common.{◌++◌}
-use Rattle.std.specs.Prelude.{codes}
+use Rattle.std.proofs.Common.{◌++◌, codes}
+use Rattle.run_reports.proofs.Names.{count_text, plan_last}
 use Rattle.std.proofs.lemmas.Result.{err_from_is_err_and}
-use Rattle.run_reports.specs.Forms.{count_text, plan_last}
 use Rattle.run_reports.proofs.FormLemmas.{writes_then, writes_cut}
 use Rattle.run_reports.proofs.tables.write_rest.Goals as goal
 

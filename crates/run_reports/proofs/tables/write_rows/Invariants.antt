@@ -1,7 +1,6 @@
 use Rattle.std.proofs.Common.{◌≡◌, take}
+use Rattle.run_reports.proofs.Names.{keys_of, rows_text}
 use Rattle.std.specs.Io.KnownBytes.{Appends}
-use Rattle.amp_plan.specs.Plans.{keys_of}
-use Rattle.run_reports.specs.Tables.{rows_text}
 use Rattle.run_reports.proofs.tables.write_rows.Given as goal
 
 abbrev pub invariant-loop-rank : goal.invariant-loop-rank

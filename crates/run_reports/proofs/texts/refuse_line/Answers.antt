@@ -1,7 +1,5 @@
-use Rattle.std.proofs.Common.{rules, ◌≡◌, ◌++◌, subst}
-use Rattle.std.specs.Prelude.{codes, decimal}
-use Rattle.run_reports.specs.Report.{Ends, refusal}
-use Rattle.run_reports.specs.Texts.{line_refused, kind_text}
+use Rattle.std.proofs.Common.{rules, ◌≡◌, ◌++◌, subst, codes, decimal}
+use Rattle.run_reports.proofs.Names.{Ends, refusal, line_refused, kind_text}
 use Rattle.run_reports.proofs.texts.refuse_line.Goals as goal
 
 pub returns : goal.returns

@@ -3,9 +3,9 @@ use Rattle.std.specs.Int.{w128}
 use Rattle.std.specs.Prelude.{◌^◌}
 use Rattle.std.proofs.Math.Nat.{mod-eq_of_lt}
 use Rattle.std.proofs.lemmas.Int.{to_z_pos}
-use Rattle.running_sum.proofs.NumberLemmas.{small_number}
 use Rattle.running_sum.proofs.UnreducedLemmas.{size-shifted, size-raised}
 use Rattle.running_sum.proofs.sizes.raised.Goals as goal
+use Rattle.frac128.proofs.SignLemmas.{small_number}
 
 pub overflow_cast-result-2 : goal.overflow_cast-result-2
 overflow_cast-result-2 c =

@@ -1,8 +1,8 @@
 use Rattle.std.proofs.Common.{rules, arith, ◌≡◌, to_z, of_z, ◌*ℤ◌, refl}
 use Rattle.std.specs.Int.{w128}
-use Rattle.running_sum.proofs.NumberLemmas.{small_number}
 use Rattle.running_sum.proofs.UnreducedLemmas.{size-product}
 use Rattle.running_sum.proofs.sizes.short_product.Goals as goal
+use Rattle.frac128.proofs.SignLemmas.{small_number}
 
 pub overflow_mul-result : goal.overflow_mul-result
 overflow_mul-result c =

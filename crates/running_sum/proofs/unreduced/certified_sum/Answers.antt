@@ -3,8 +3,9 @@ use Rattle.std.specs.Int.{w128}
 use Rattle.std.specs.Prelude.{◌^◌}
 use Rattle.airy_math.specs.Obtained.{both_obtained, obtained_sum}
 use Rattle.running_sum.specs.Sizes.{IsProduct, IsSum, IsCommon}
-use Rattle.running_sum.proofs.UnreducedLemmas.{size-odds, size-dens, sum_of, positive-product}
+use Rattle.running_sum.proofs.UnreducedLemmas.{size-odds, size-dens, sum_of}
 use Rattle.running_sum.proofs.unreduced.certified_sum.Goals as goal
+use Rattle.running_sum.proofs.CertifiedLaw.{positive-product}
 
 pub overflow_mul-result : goal.overflow_mul-result
 overflow_mul-result c = let h = size-odds c.a.inside.odd c.in_ok-f.f c.bits.result c.bits-2.result 0 (search rules) (search rules) (omega arith) in record { fits = omega arith }

@@ -10,5 +10,5 @@ returns c =
     let t = c.args.tensors.now in
     let inside = lt-ltb c.args.i t.dim c.requires in
     let puts = c.put_d.ensures in
-    rw c.stored.ensures (puts_here c.put_d.result _ _ (is_given t.d c.args.i) c.args.v c.put_d.new.self _ inside
-    (record { index = puts.index; grade = puts.grade; twice = puts.twice; put = puts.put }))
+    rw c.stored.ensures (puts_here c.put_d.result _ _ (is_given t.d c.args.i) c.args.v t _ c.put_d.new.self inside
+    (record { index = puts.index; grade = puts.grade; twice = puts.twice; nothing = puts.nothing; allowed = puts.allowed; put = puts.put; same = puts.same }))

@@ -1,4 +1,4 @@
-use Rattle.std.proofs.Common.{rules, arith, ◌<◌, length, length-drop, rules}
+use Rattle.std.proofs.Common.{rules, arith, ◌<◌, length, length-drop}
 use Rattle.tensor_text.proofs.LineLemmas.{no_lines, lines_first}
 use Rattle.tensor_text.proofs.lines.split_line.Goals as goal
 

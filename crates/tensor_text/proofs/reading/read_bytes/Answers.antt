@@ -1,5 +1,4 @@
-use Rattle.std.proofs.Common.{arith, ◌≡◌, ◌++◌, take, length, length-append}
-use Rattle.std.proofs.lemmas.List.{length-take-le}
+use Rattle.std.proofs.Common.{arith, ◌≡◌, ◌++◌, take, length, length-append, length-take-le}
 use Rattle.tensor_text.proofs.ReadLemmas.{Consumes-more}
 use Rattle.tensor_text.proofs.reading.read_bytes.Goals as goal
 

@@ -1,7 +1,7 @@
-use Rattle.std.specs.Prelude.{codes}
+use Rattle.std.proofs.Common.{codes}
 use Rattle.std.proofs.lemmas.Result.{err_from_is_err_and}
 use Rattle.tensor_text.specs.Pieces.{places_piece, indices_piece}
-use Rattle.tensor_text.specs.declared.letters.Letter.TheVariants.{A, B, C}
+use Rattle.sparse_tensor.specs.declared.parts.Part.TheVariants.{A, B, C}
 use Rattle.tensor_text.proofs.WriteLemmas.{cut_first, written_behind}
 use Rattle.tensor_text.proofs.CanonicalLaw.{entries_pieces, from_b, from_c, from_d}
 use Rattle.tensor_text.proofs.writing.write_entries.Goals as goal

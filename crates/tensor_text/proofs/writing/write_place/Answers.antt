@@ -17,4 +17,4 @@ unfolding place_piece
 returns g c =
     let some : ((value_in c.args.letter c.args.t.now c.args.i c.args.j c.args.k) ≡ 0ℚ → ⊥) = search rules in
     let test = some_test (value_in c.args.letter c.args.t.now c.args.i c.args.j c.args.k) some in
-    rw (test, ← c.value-v.ensures) c.write_entry.ensures
+    rw (test, ← c.value_in-v.ensures) c.write_entry.ensures

@@ -1,32 +1,23 @@
-use Rattle.std.proofs.Common.{rules, arith, refl}
+use Rattle.std.proofs.Common.{arith, refl}
 use Rattle.std.proofs.lemmas.Result.{err_from_is_err_and}
 use Rattle.tensor_text.specs.Pieces.{plane_piece, places_piece}
-use Rattle.tensor_text.proofs.WriteLemmas.{each_cut, each_written, none_at, all_written, nothing_written}
+use Rattle.tensor_text.proofs.WriteLemmas.{writing_begins, writing_next, writing_cut, writing_ends}
 use Rattle.tensor_text.proofs.writing.write_places.Goals as goal
 
 pub loop-i-init : goal.loop-i-init
-loop-i-init g c =
-    record {
-      written = rw (none_at (plane_piece c.args.letter c.args.t.now) 0 0 refl) (nothing_written (g.W.Sink.state c.args.out.now).taken);
-      within = omega arith;
-      kept = search rules;
-    }
+loop-i-init g c = writing_begins (plane_piece c.args.letter c.args.t.now) 0 c.args.t.now.dim 0 (g.W.Sink.state c.args.out.now) refl
 
 pub returns-in_err-write_plane : goal.returns-in_err-write_plane
 unfolding places_piece
 returns-in_err-write_plane g c =
     let p = err_from_is_err_and c.from_residual.result c.from_residual.ensures.1 in
-    rw (p.1, p.2) (each_cut (plane_piece c.args.letter c.args.t.now) 0 c.args.t.now.dim c.loop-i.i (g.W.Sink.state c.args.out.now) (g.W.Sink.state c.loop-i.out) (g.W.Sink.state c.write_plane.new.out) _
-    (omega arith) (omega arith) c.loop-i.invariant.written c.loop-i.invariant.kept c.in_err-write_plane.ensures)
+    rw (p.1, p.2) (writing_cut (plane_piece c.args.letter c.args.t.now) 0 c.args.t.now.dim c.loop-i.i (g.W.Sink.state c.args.out.now) (g.W.Sink.state c.loop-i.out) c.loop-i.invariant (g.W.Sink.state c.write_plane.new.out) _ (omega arith) c.in_err-write_plane.ensures)
 
 pub loop-i-preserved : goal.loop-i-preserved
-loop-i-preserved g c = record {
-  written = each_written (plane_piece c.args.letter c.args.t.now) 0 c.loop-i.i (g.W.Sink.state c.args.out.now).taken (g.W.Sink.state c.loop-i.out).taken (g.W.Sink.state c.write_plane.new.out).taken (omega arith) c.loop-i.invariant.written c.in_ok-write_plane.ensures.written;
-  within = omega arith;
-  kept = search rules;
-}
+loop-i-preserved g c =
+    writing_next (plane_piece c.args.letter c.args.t.now) 0 c.args.t.now.dim c.loop-i.i (g.W.Sink.state c.args.out.now) (g.W.Sink.state c.loop-i.out) c.loop-i.invariant (g.W.Sink.state c.write_plane.new.out) _ (omega arith) c.in_ok-write_plane.ensures
 
 pub returns : goal.returns
 unfolding places_piece
 returns g c =
-    all_written (plane_piece c.args.letter c.args.t.now) 0 c.args.t.now.dim c.loop-i.i (g.W.Sink.state c.args.out.now) (g.W.Sink.state c.loop-i.out) tt (omega arith) c.loop-i.invariant.written c.loop-i.invariant.kept
+    writing_ends (plane_piece c.args.letter c.args.t.now) 0 c.args.t.now.dim c.loop-i.i (g.W.Sink.state c.args.out.now) (g.W.Sink.state c.loop-i.out) c.loop-i.invariant tt (omega arith)

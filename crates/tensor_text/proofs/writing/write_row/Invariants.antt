@@ -1,11 +1,7 @@
-use Rattle.std.proofs.Common.{◌≡◌, ◌-◌, ◌≤◌}
-use Rattle.std.specs.Io.KnownBytes.{Appends}
-use Rattle.tensor_text.specs.Pieces.{each_from, first_in, place_piece}
+use Rattle.std.proofs.Common.{◌-◌}
+use Rattle.tensor_text.specs.Pieces.{first_in, place_piece}
+use Rattle.tensor_text.proofs.WriteLemmas.{IsWriting}
 use Rattle.tensor_text.proofs.writing.write_row.Given as goal
 
 abbrev pub invariant-loop-k : goal.invariant-loop-k
-invariant-loop-k g l = record {
-  written : Appends (g.W.Sink.state l.fn.out).taken (g.W.Sink.state l.out).taken (each_from (place_piece l.letter l.t l.i l.j) (first_in l.letter l.j) (l.k - (first_in l.letter l.j)));
-  within : l.k ≤ l.t.dim;
-  kept : (g.W.Sink.state l.out).faults ≡ (g.W.Sink.state l.fn.out).faults;
-}
+invariant-loop-k g l = IsWriting (place_piece l.letter l.t l.i l.j) (first_in l.letter l.j) (l.t.dim - first_in l.letter l.j) l.k (g.W.Sink.state l.fn.out) (g.W.Sink.state l.out)

@@ -1,7 +1,6 @@
 use Rattle.std.proofs.Common.{arith, sym, ap, ◌≡◌, ◌∙◌, length}
-use Rattle.std.specs.List.{refill}
+use Rattle.airy_index.proofs.Words.{refill, chosen_split}
 use Rattle.airy_index.specs.SplitValues.{split_value}
-use Rattle.airy_index.specs.Choices.{chosen_split}
 use Rattle.airy_index.proofs.ChoiceLemmas.{left_step, left_end, refill_same}
 use Rattle.airy_index.proofs.splits.SplitsIterator.next.Goals as goal
 

@@ -1,5 +1,5 @@
-use Rattle.std.proofs.Common.{arith, sym, ap, subst, ◌∙◌, ◌≡◌, ◌<◌, ◌≤◌, ◌+◌, [], length, get_or}
-use Rattle.amp_plan.specs.Plans.{key_at, keys_of}
+use Rattle.std.proofs.Common.{arith, sym, ap, subst, ◌∙◌, ◌<◌, ◌+◌, length}
+use Rattle.amp_plan.specs.Plans.{key_at}
 use Rattle.amp_plan.specs.Limits.{PassesNeeds, Tells}
 use Rattle.amp_plan.proofs.LimitLemmas.{limit-memory}
 use Rattle.amp_plan.proofs.GraphLemmas.{IsGathered, gathered-none, gathered-more, gathered-past, gathered-all}

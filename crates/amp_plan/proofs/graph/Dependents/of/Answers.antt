@@ -1,7 +1,5 @@
 use Rattle.std.proofs.Common.{arith, sym, subst, ◌<◌, [], length, get_or}
-use Rattle.amp_plan.specs.Plans.{keys_of}
-use Rattle.amp_plan.specs.Limits.{Tells}
-use Rattle.amp_plan.specs.Rows.{IsRow, AreTurned}
+use Rattle.amp_plan.proofs.Words.{keys_of, Tells, IsRow, AreTurned}
 use Rattle.amp_plan.proofs.LimitLemmas.{limit-memory}
 use Rattle.amp_plan.proofs.GraphLemmas.{collected-rows, dependents_from}
 use Rattle.amp_plan.proofs.graph.Dependents.of.Goals as goal

@@ -1,6 +1,5 @@
 use Rattle.std.proofs.Common.{arith, sym, subst, ◌<◌}
-use Rattle.std.specs.Vec.{vec_capacity}
-use Rattle.amp_plan.specs.Marks.{IsMarked}
+use Rattle.amp_plan.proofs.Words.{vec_capacity, IsMarked}
 use Rattle.amp_plan.proofs.MarkLemmas.{marked-none}
 use Rattle.amp_plan.proofs.marker.Marker.begin.Goals as goal
 

@@ -1,11 +1,7 @@
 use Rattle.std.proofs.Common.{sym, ap, subst, ◌∙◌, ◌≡◌, ◌<◌, ◌+◌, [], length, get_or}
-use Rattle.airy_math.specs.Keys.{head_or, times}
-use Rattle.airy_math.specs.Planned.{planned, IsPlanned}
-use Rattle.airy_math.specs.Ranks.{key_at, ListsPlanned}
+use Rattle.amp_plan.proofs.Words.{head_or, times, planned, IsPlanned, ListsPlanned, tensors_of, keys_of, named_ranks, marked, AreNamed}
+use Rattle.airy_math.specs.Ranks.{key_at}
 use Rattle.airy_math.proofs.PlannedLaw.{head_stands}
-use Rattle.amp_plan.specs.Plans.{tensors_of, keys_of}
-use Rattle.amp_plan.specs.Needs.{named_ranks}
-use Rattle.amp_plan.specs.Marks.{marked, AreNamed}
 use Rattle.amp_plan.proofs.NeedLemmas.{head_read, key_read_at, walk_allowed, collected, are_named}
 use Rattle.amp_plan.proofs.marker.Marker.collect.Goals as goal
 

@@ -1,9 +1,5 @@
-use Rattle.std.proofs.Common.{arith, sym, ap, subst, ◌∙◌, ◌≡◌, ◌<◌, ◌++◌, ◌∷◌, [], length, set, length-set, true, false}
-use Rattle.std.specs.Vec.{vec_capacity}
-use Rattle.std.proofs.lemmas.List.{get_or_read}
-use Rattle.std.proofs.lemmas.Bool.{eq-eqb, ne_eqb}
-use Rattle.amp_plan.specs.Needs.{has}
-use Rattle.amp_plan.specs.Marks.{Marks, IsMarked, marked}
+use Rattle.std.proofs.Common.{arith, sym, ap, subst, ◌∙◌, ◌≡◌, ◌<◌, ◌++◌, ◌∷◌, [], length, set, length-set, true, false, eq-eqb, ne_eqb}
+use Rattle.amp_plan.proofs.Words.{vec_capacity, get_or_read, has, Marks, IsMarked, marked}
 use Rattle.amp_plan.proofs.MarkLemmas.{marked-room, marked-more, marked-new, marked-same}
 use Rattle.amp_plan.proofs.marker.Marker.mark.Goals as goal
 

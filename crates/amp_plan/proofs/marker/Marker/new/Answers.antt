@@ -1,7 +1,6 @@
 use Rattle.std.proofs.Common.{arith, sym, ap, subst, ◌∙◌, ◌≡◌, length}
 use lib.ListN.{length-replicate}
-use Rattle.std.specs.Vec.{vec_capacity}
-use Rattle.amp_plan.specs.Marks.{IsMarked}
+use Rattle.amp_plan.proofs.Words.{vec_capacity, IsMarked}
 use Rattle.amp_plan.proofs.MarkLemmas.{marked-none, zeros-small}
 use Rattle.amp_plan.proofs.marker.Marker.new.Goals as goal
 

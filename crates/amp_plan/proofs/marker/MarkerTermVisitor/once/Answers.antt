@@ -1,6 +1,5 @@
 use Rattle.std.proofs.Common.{◌∷◌, []}
-use Rattle.amp_plan.specs.Ranked.{ranks_of}
-use Rattle.amp_plan.specs.Marks.{marked_term}
+use Rattle.amp_plan.proofs.Words.{ranks_of, marked_term}
 use Rattle.amp_plan.proofs.MarkLemmas.{same_size}
 use Rattle.amp_plan.proofs.marker.MarkerTermVisitor.once.Goals as goal
 

@@ -1,6 +1,5 @@
 use Rattle.std.proofs.Common.{ap, ◌∙◌, ◌∷◌, []}
-use Rattle.amp_plan.specs.Ranked.{ranks_of}
-use Rattle.amp_plan.specs.Marks.{marked, marked_term}
+use Rattle.amp_plan.proofs.Words.{ranks_of, marked, marked_term}
 use Rattle.amp_plan.proofs.MarkLemmas.{same_size, marked-append}
 use Rattle.amp_plan.proofs.marker.MarkerTermVisitor.twice.Goals as goal
 

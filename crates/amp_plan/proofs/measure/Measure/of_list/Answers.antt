@@ -1,10 +1,5 @@
-use Rattle.std.proofs.Common.{arith, rules, sym, subst, ◌≡◌, ◌≤◌, ◌<◌, ◌+◌, ◌++◌, ◌∷◌, [], length, take}
-use Rattle.std.specs.Prelude.{slice_index}
-use Rattle.std.specs.Int.RustNames.{unsigned_abs}
-use mir.Val.{to_z, of_z}
-use mir.Syntax.{w64}
-use Rattle.std.proofs.lemmas.List.{take_all, length-take-le, take_more}
-use Rattle.amp_plan.specs.Measures.{IsMeasured}
+use Rattle.std.proofs.Common.{arith, rules, sym, subst, ◌≡◌, ◌≤◌, ◌<◌, ◌+◌, ◌++◌, ◌∷◌, [], length, take, slice_index, to_z, of_z, w64, take_all, length-take-le}
+use Rattle.amp_plan.proofs.Words.{unsigned_abs, take_more, IsMeasured}
 use Rattle.amp_plan.proofs.MeasureLemmas.{AreBytes, bytes-push, measured-none, measured-append, measured-light}
 use Rattle.amp_plan.proofs.measure.Measure.of_list.Goals as goal
 

@@ -1,6 +1,4 @@
-use Rattle.std.proofs.Common.{arith, refl, ℕ, ◌≡◌, ◌<◌, ◌&&◌, false}
-use mathlib.Core.Logic.{◌⊎◌, inl, inr}
-use lib.Dec.{leb}
+use Rattle.std.proofs.Common.{arith, refl, ℕ, ◌≡◌, ◌<◌, ◌&&◌, false, ◌⊎◌, inl, inr, leb}
 use Rattle.amp_plan.specs.Limits.{Tells}
 use Rattle.amp_plan.proofs.LimitLemmas.{limit-bound}
 use Rattle.amp_plan.proofs.plan.Plan.make.Goals as goal

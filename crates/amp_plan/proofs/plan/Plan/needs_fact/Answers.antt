@@ -1,5 +1,4 @@
-use Rattle.amp_plan.specs.Plans.{tensors_of}
-use Rattle.airy_math.specs.Planned.{planned}
+use Rattle.amp_plan.proofs.Words.{tensors_of, planned}
 use Rattle.airy_math.specs.Ranks.{key_at}
 use Rattle.amp_plan.proofs.NeedsFacts.{needs_fact}
 use Rattle.amp_plan.proofs.plan.Plan.needs_fact.Goals as goal

@@ -1,5 +1,4 @@
-use Rattle.amp_plan.specs.Plans.{tensors_of, keys_of}
-use Rattle.amp_plan.specs.Needs.{needs_at}
+use Rattle.amp_plan.proofs.Words.{tensors_of, keys_of, needs_at}
 use Rattle.amp_plan.proofs.GrowLemmas.{keeps_ranks, named-still}
 use Rattle.amp_plan.proofs.ranking.Ranking.grown_fact.Goals as goal
 

@@ -1,6 +1,5 @@
 use Rattle.std.proofs.Common.{◌∙◌, ◌≡◌, sym, subst}
-use Rattle.amp_plan.specs.Plans.{Planning}
-use Rattle.amp_plan.specs.Places.{letter_power}
+use Rattle.amp_plan.proofs.Words.{Planning, letter_power}
 use Rattle.amp_plan.proofs.PlanLemmas.{no_letter, with_letter}
 use Rattle.amp_plan.proofs.ranking.Ranking.letter.Goals as goal
 

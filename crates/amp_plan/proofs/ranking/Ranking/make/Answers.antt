@@ -1,6 +1,5 @@
 use Rattle.std.proofs.Common.{refl}
-use Rattle.airy_math.specs.Sums.{each, count_from}
-use Rattle.airy_math.specs.Planned.{planned}
+use Rattle.amp_plan.proofs.Words.{each, count_from, planned}
 use Rattle.amp_plan.proofs.ranking.Ranking.make.Goals as goal
 
 pub planned_index-requires-clause-known : goal.planned_index-requires-clause-known

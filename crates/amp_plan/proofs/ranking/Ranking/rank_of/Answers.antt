@@ -1,11 +1,5 @@
-use Rattle.std.proofs.Common.{arith, ap, ap₂, length, ◌∙◌, ◌≡◌, ◌≤◌, ◌<◌, sym, subst, true, false}
-use lib.Dec.{ltb}
-use Rattle.airy_math.specs.Keys.{euler}
-use Rattle.airy_math.specs.Shapes.{covers}
-use Rattle.airy_math.specs.Ranks.{place_of}
-use Rattle.amp_plan.specs.Plans.{Planning, tensors_of, keys_of, rank_at}
-use Rattle.amp_plan.specs.Places.{place_in, are_below, AreInOrder}
-use Rattle.amp_plan.specs.declared.place.Place.TheVariants.{At, Zero, Beyond, BadIndex}
+use Rattle.std.proofs.Common.{arith, ap, ap₂, length, ◌∙◌, ◌≡◌, ◌≤◌, ◌<◌, sym, subst, true, false, ltb}
+use Rattle.amp_plan.proofs.Words.{euler, covers, place_of, Planning, tensors_of, keys_of, rank_at, place_in, are_below, AreInOrder, At, Zero, Beyond, BadIndex}
 use Rattle.amp_plan.proofs.PlanLemmas.{beyond, zero_there, bad_index, at_rank, planned_there}
 use Rattle.amp_plan.proofs.ranking.Ranking.rank_of.Goals as goal
 

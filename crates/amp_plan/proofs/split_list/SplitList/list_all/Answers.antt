@@ -1,11 +1,6 @@
-use Rattle.std.proofs.Common.{rules, ◌≡◌, ◌≤◌, subst, ◌∙◌}
-use Rattle.std.specs.Int.RustNames.{unsigned_abs}
-use mir.Val.{to_z, of_z}
-use mir.Syntax.{w64}
-use Rattle.airy_math.specs.Shapes.{per_n}
-use Rattle.airy_math.specs.Splits.{runs, splits}
-use Rattle.amp_plan.specs.Shares.{no_split}
-use Rattle.amp_plan.specs.SplitLists.{all_listed}
+use Rattle.std.proofs.Common.{rules, ◌≡◌, subst, ◌∙◌, to_z, of_z, w64}
+use Rattle.amp_plan.proofs.Words.{per_n, splits, no_split, all_listed}
+use Rattle.airy_math.specs.Splits.{runs}
 use Rattle.amp_plan.proofs.SplitListLemmas.{numbers-nothing, listable-nothing, listed-whole}
 use Rattle.amp_plan.proofs.split_list.SplitList.list_all.Goals as goal
 

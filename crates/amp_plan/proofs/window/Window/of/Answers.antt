@@ -1,10 +1,5 @@
-use Rattle.std.proofs.Common.{rules, ◌≡◌, sym, ap, ◌∙◌}
-use Rattle.std.specs.Prelude.{pos}
-use lib.Signed.{le_z}
-use mir.Val.{to_z, of_z}
-use mir.Syntax.{w64}
-use Rattle.airy_math.specs.Keys.{key_of, total}
-use Rattle.airy_math.specs.Shapes.{covers, eq_z}
+use Rattle.std.proofs.Common.{rules, ◌≡◌, sym, ap, ◌∙◌, pos, to_z, of_z, w64}
+use Rattle.amp_plan.proofs.Words.{le_z, key_of, total, covers, eq_z}
 use Rattle.amp_plan.proofs.WindowLemmas.{all_in}
 use Rattle.amp_plan.proofs.window.Window.of.Goals as goal
 

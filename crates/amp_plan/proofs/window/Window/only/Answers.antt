@@ -1,7 +1,5 @@
-use Rattle.std.proofs.Common.{rules, arith}
+use Rattle.std.proofs.Common.{rules, arith, to_z, of_z, w64}
 use Rattle.std.proofs.lemmas.Int.{ints}
-use mir.Val.{to_z, of_z}
-use mir.Syntax.{w64}
 use Rattle.amp_plan.proofs.WindowLemmas.{only_at, only_below, only_above, as_natural}
 use Rattle.amp_plan.proofs.window.Window.only.Goals as goal
 

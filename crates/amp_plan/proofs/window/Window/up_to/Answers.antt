@@ -1,7 +1,5 @@
-use Rattle.std.proofs.Common.{rules, arith}
+use Rattle.std.proofs.Common.{rules, arith, to_z, of_z, w64}
 use Rattle.std.proofs.lemmas.Int.{ints}
-use mir.Val.{to_z, of_z}
-use mir.Syntax.{w64}
 use Rattle.amp_plan.proofs.WindowLemmas.{up_to_at, up_to_none, up_to_most, as_natural}
 use Rattle.amp_plan.proofs.window.Window.up_to.Goals as goal
 

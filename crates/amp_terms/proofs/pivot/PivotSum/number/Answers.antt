@@ -1,26 +1,32 @@
-use Rattle.std.proofs.Common.{refl, sym, ap, ◌∙◌}
+use Rattle.std.proofs.Common.{sym, ap, ◌∙◌, ◌≡◌, Some, true, false}
+use Rattle.std.specs.Option.{is_some}
 use Rattle.airy_math.specs.RationalLaws.{0ℚ}
-use Rattle.amp_terms.specs.Outcomes.{has_value, value_or_zero}
-use Rattle.amp_terms.specs.Pivots.{noted}
-use Rattle.amp_terms.proofs.SummingLemmas.{noted-without, zero-without}
+use Rattle.amp_terms.specs.Outcomes.{has_value}
+use Rattle.amp_terms.proofs.SummingLemmas.{noted-value, noted-none}
+use Rattle.amp_terms.proofs.TableLemmas.{of_value, of_none}
 use Rattle.amp_terms.proofs.pivot.PivotSum.number.Goals as goal
 
-pub returns-in-Value-clause-number : goal.returns-in-Value-clause-number
-unfolding value_or_zero
-returns-in-Value-clause-number g c = ap value_or_zero (sym c.in-Value.is ∙ c.at.ensures.outcome)
+pub returns-in-Some-clause-number : goal.returns-in-Some-clause-number
+returns-in-Some-clause-number g c =
+    let o = g.S.Seen.shown c.args.self.now.seen.now c.args.rank in
+    let h : has_value o ≡ true = sym c.number.ensures.whether ∙ ap is_some c.in-Some.is in
+    c.in-Some.ensures.number ∙ of_value o h
 
-pub returns-in-Value-clause-noted : goal.returns-in-Value-clause-noted
-unfolding noted has_value
-returns-in-Value-clause-noted g c = ap (noted c.args.self.now.blocked c.args.rank) (sym c.in-Value.is ∙ c.at.ensures.outcome)
+pub returns-in-Some-clause-noted : goal.returns-in-Some-clause-noted
+returns-in-Some-clause-noted g c =
+    let o = g.S.Seen.shown c.args.self.now.seen.now c.args.rank in
+    let h : has_value o ≡ true = sym c.number.ensures.whether ∙ ap is_some c.in-Some.is in
+    sym (noted-value c.args.self.now.blocked c.args.rank o h)
 
-pub returns-in_default : goal.returns-in_default
+pub returns-in-None-clause-number : goal.returns-in-None-clause-number
 unfolding 0ℚ
-returns-in_default g c = record {
-  number = c.whole.ensures ∙ sym (zero-without c.at.result c.in_default.not-Value) ∙ ap value_or_zero c.at.ensures.outcome;
-  noted = c.less-self.ensures ∙ sym (noted-without c.args.self.now.blocked c.args.rank c.at.result c.in_default.not-Value) ∙ ap (noted c.args.self.now.blocked c.args.rank) c.at.ensures.outcome;
-  sum = refl;
-  same_reference = refl;
-  ranks = c.at.ensures.ranks;
-  same = c.at.ensures.same;
-  base = c.at.ensures.base;
-}
+returns-in-None-clause-number g c =
+    let o = g.S.Seen.shown c.args.self.now.seen.now c.args.rank in
+    let h : has_value o ≡ false = sym c.number.ensures.whether ∙ ap is_some c.in-None.is in
+    c.of.ensures ∙ ap Some (c.whole.ensures ∙ sym (of_none o h))
+
+pub returns-in-None-clause-noted : goal.returns-in-None-clause-noted
+returns-in-None-clause-noted g c =
+    let o = g.S.Seen.shown c.args.self.now.seen.now c.args.rank in
+    let h : has_value o ≡ false = sym c.number.ensures.whether ∙ ap is_some c.in-None.is in
+    c.less-self.ensures ∙ sym (noted-none c.args.self.now.blocked c.args.rank o h)

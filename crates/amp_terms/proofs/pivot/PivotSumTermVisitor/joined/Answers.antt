@@ -1,4 +1,4 @@
-use Rattle.std.proofs.Common.{ap₂, ◌∙◌, Some}
+use Rattle.std.proofs.Common.{ap₂, ◌∙◌}
 use Rattle.airy_math.specs.Obtained.{both_obtained, obtained_sum, ◌⊛◌}
 use Rattle.amp_terms.specs.Pivots.{with_term, all_noted, number_at}
 use Rattle.amp_plan.specs.Ranked.{ranks_of, obtained_at}
@@ -9,4 +9,4 @@ pub returns-clause-step : goal.returns-clause-step
 unfolding with_term all_noted ranks_of obtained_at number_at
 returns-clause-step g c =
     let n = c.number-number.ensures in
-    same_summing _ _ n.same_reference n.base n.same n.noted (c.add_joined.ensures ∙ ap₂ (λ a v. both_obtained obtained_sum a (c.args.weight ⊛ Some v)) n.sum n.number)
+    same_summing _ _ n.same_reference n.base n.same n.noted (c.add_joined.ensures ∙ ap₂ (λ a v. both_obtained obtained_sum a (c.args.weight ⊛ v)) n.sum n.number)

@@ -10,4 +10,4 @@ pub returns-clause-step : goal.returns-clause-step
 unfolding with_term all_noted ranks_of obtained_at number_at
 returns-clause-step g c =
     let n = c.number-number.ensures in
-    same_summing _ _ n.same_reference n.base n.same n.noted (c.add_once.ensures ∙ ap₂ (λ a v. both_obtained obtained_sum a (Some (whole c.args.times) ⊛ Some c.args.v ⊛ Some v)) n.sum n.number)
+    same_summing _ _ n.same_reference n.base n.same n.noted (c.add_once.ensures ∙ ap₂ (λ a v. both_obtained obtained_sum a (Some (whole c.args.times) ⊛ Some c.args.v ⊛ v)) n.sum n.number)

@@ -1,18 +1,10 @@
 use Rattle.std.proofs.Common.{◌≡◌, ℕ, ◌<◌, true, false, arith, refl, sym, ap, ◌∙◌, subst}
-use Rattle.amp_plan.specs.Plans.{Planning, tensors_of}
 use Rattle.amp_plan.specs.Needs.{AreNeeds}
-use Rattle.airy_math.specs.Ranks.{ListsPlanned}
-use Rattle.airy_math.specs.Keys.{Key}
-use Rattle.airy_index.specs.Fields.{IsKey}
-use Rattle.amp_plan.specs.Places.{place_in}
-use Rattle.amp_plan.specs.declared.place.Place.{Place}
-use Rattle.amp_plan.specs.declared.place.Place.TheVariants as place
-use Rattle.cell_words.specs.Layout.{cells, outcome_at}
-use Rattle.ask_seats.specs.Replies.{reply_of}
-use Rattle.ask_seats.specs.Sessions.{is_rank, outcome_reply}
-use Rattle.ask_seats.specs.Asks.{AnswersAt, Looks, finds, misses}
 use Rattle.amp_plan.proofs.PlaceLemmas.{rank_within}
 use Rattle.amp_terms.proofs.BlockedLemmas.{blocked-below}
+use Rattle.ask_seats.proofs.Names.{Planning, tensors_of, ListsPlanned, Key, IsKey, place_in, Place, cells, outcome_at, reply_of, is_rank, outcome_reply}
+use Rattle.ask_seats.specs.Asks.{AnswersAt, Looks, finds, misses}
+use Rattle.amp_plan.specs.declared.place.Place.TheVariants as place
 use Rattle.ask_seats.proofs.asker.Asker.ask.Goals as goal
 
 -- a key at a rank is at one

@@ -1,5 +1,4 @@
-use Rattle.std.proofs.Common.{◌≡◌, ◌+◌, ◌/◌, ◌%◌, ◌≤◌, ℕ, false, List, sym, subst, ◌∙◌, arith, rules}
-use Rattle.std.specs.Prelude.{Some, None}
+use Rattle.std.proofs.Common.{◌≡◌, ◌+◌, ◌/◌, ◌%◌, ◌≤◌, ℕ, false, List, sym, subst, ◌∙◌, arith, rules, Some, None}
 use Rattle.std.specs.Option.{is_some}
 use Rattle.airy_math.specs.Rational.{ℚ}
 use Rattle.bulk_tensors.specs.Full.{entry}

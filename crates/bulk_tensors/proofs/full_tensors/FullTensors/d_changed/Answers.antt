@@ -1,5 +1,4 @@
-use Rattle.std.proofs.Common.{◌≡◌, ℕ, List, get_or, sym, ap, subst, ◌∙◌, arith, rules}
-use Rattle.std.specs.Prelude.{Some, set}
+use Rattle.std.proofs.Common.{◌≡◌, ℕ, List, get_or, sym, ap, subst, ◌∙◌, arith, rules, Some, set}
 use Rattle.std.specs.Option.{is_some}
 use Rattle.airy_math.specs.Rational.{ℚ}
 use Rattle.airy_math.specs.RationalLaws.{0ℚ}

@@ -1,5 +1,4 @@
-use Rattle.std.proofs.Common.{◌≡◌, ◌+◌, ◌*◌, ap, rules, slice_set}
-use Rattle.std.specs.Prelude.{set}
+use Rattle.std.proofs.Common.{◌≡◌, ◌+◌, ◌*◌, ap, rules, slice_set, set}
 use Rattle.bulk_tensors.specs.Full.{Lists, with_diagonal}
 use Rattle.bulk_tensors.proofs.full_tensors.FullTensors.set_diagonal.Goals as goal
 

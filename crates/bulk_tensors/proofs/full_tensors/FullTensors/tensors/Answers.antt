@@ -1,8 +1,7 @@
-use Rattle.std.proofs.Common.{◌≡◌, ◌+◌, ◌*◌, ◌/◌, ◌%◌, ap, sym, subst, ◌∙◌, arith, rules}
+use Rattle.std.proofs.Common.{◌≡◌, ◌+◌, ◌*◌, ◌/◌, ◌%◌, ap, sym, subst, ◌∙◌, arith, rules, false}
 use Rattle.airy_math.specs.declared.Shape.TheVariants.{All}
 use Rattle.sparse_tensor.specs.Entries.{Entries, no_entries}
 use Rattle.sparse_tensor.specs.Grades.{IsSmallLaw}
-use Rattle.std.specs.Prelude.{false}
 use Rattle.bulk_tensors.specs.Full.{Lists}
 use Rattle.bulk_tensors.specs.Filled.{AreFilled}
 use Rattle.bulk_tensors.proofs.FilledLemmas.{filled_none, filled_outside, filled_all}

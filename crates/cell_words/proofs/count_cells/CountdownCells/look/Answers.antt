@@ -1,9 +1,7 @@
 use Rattle.std.proofs.Common.{◌≡◌, refl, sym, ap, ◌∙◌, subst, true}
-use Rattle.amp_plan.specs.Plans.{Planning}
-use Rattle.amp_plan.specs.Needs.{has, needs_at}
-use Rattle.cell_words.specs.Countdown.{Known, by_need, looked}
-use Rattle.cell_words.specs.Seats.{IsLookAt, ShowsUnfilled, view_of}
-use Rattle.cell_words.specs.declared.view.View.{View}
+use Rattle.cell_words.proofs.Names.{Planning, has, needs_at, Known, by_need, view_of, View}
+use Rattle.cell_words.specs.Countdown.{looked}
+use Rattle.cell_words.specs.Seats.{IsLookAt, ShowsUnfilled}
 use Rattle.cell_words.proofs.StepLemmas.{known_looked, known_now}
 use Rattle.cell_words.proofs.PlanFacts.{reaches}
 use Rattle.cell_words.proofs.SeatLemmas.{plan_of, has_token}

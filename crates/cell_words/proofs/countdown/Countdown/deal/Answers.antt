@@ -1,8 +1,5 @@
 use Rattle.std.proofs.Common.{◌≡◌, ℕ, ◌-◌, ◌<◌, [], length, drop, get_or, refl, sym, ap, ◌∙◌, arith, add-one, length-set, length-drop, get_or-set_other}
-use Rattle.cell_words.specs.Countdown.{with_portions, left_part, right_part}
-use Rattle.cell_words.specs.declared.view.View.{View}
-use Rattle.cell_words.specs.declared.view.Portion.{Portion}
-use Rattle.cell_words.specs.declared.countdown.CountSeat.{CountSeat}
+use Rattle.cell_words.proofs.Names.{with_portions, left_part, right_part, Portion, CountSeat, View}
 use Rattle.cell_words.proofs.PartLemmas.{splits}
 use Rattle.cell_words.proofs.SeatLemmas.{token_after}
 use Rattle.cell_words.proofs.DealLemmas.{head_drop, tail_drop, one_left, deal_more}

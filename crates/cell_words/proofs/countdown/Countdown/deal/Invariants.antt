@@ -1,9 +1,5 @@
-use Rattle.std.proofs.Common.{◌≡◌, ℕ, ◌<◌, ◌≤◌, length, drop}
-use Rattle.std.specs.Prelude.{slice_index_or}
-use Rattle.cell_words.specs.Countdown.{with_portions}
-use Rattle.cell_words.specs.Seats.{IsToken}
-use Rattle.cell_words.specs.Deals.{IsDealt}
-use Rattle.cell_words.specs.declared.countdown.CountSeat.{CountSeat}
+use Rattle.std.proofs.Common.{◌≡◌, ℕ, ◌<◌, ◌≤◌, length, drop, slice_index_or}
+use Rattle.cell_words.proofs.Names.{with_portions, IsToken, IsDealt, CountSeat}
 use Rattle.cell_words.proofs.countdown.Countdown.deal.Given as goal
 
 abbrev pub invariant-loop-k : goal.invariant-loop-k

@@ -1,8 +1,5 @@
 use Rattle.std.proofs.Common.{◌<◌, arith, sym, subst}
-use Rattle.amp_plan.specs.Plans.{Planning}
-use Rattle.cell_words.specs.Layout.{cells}
-use Rattle.cell_words.specs.Acts.{IsDone}
-use Rattle.cell_words.specs.Seats.{view_in}
+use Rattle.cell_words.proofs.Names.{Planning, cells, IsDone, view_in}
 use Rattle.cell_words.proofs.StepLemmas.{claims}
 use Rattle.cell_words.proofs.ActLemmas.{done_holds, done_some}
 use Rattle.cell_words.proofs.SeatLemmas.{token_in, live}

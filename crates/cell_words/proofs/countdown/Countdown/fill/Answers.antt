@@ -1,9 +1,5 @@
 use Rattle.std.proofs.Common.{◌≡◌, ℕ, [], length, true, false, Some, sym, ap, ◌∙◌, subst}
-use Rattle.amp_plan.specs.Needs.{has, dependents_at}
-use Rattle.cell_words.specs.Acts.{act_of, freed_by}
-use Rattle.cell_words.specs.Countdown.{Known, act_in, by_sight}
-use Rattle.cell_words.specs.Seats.{IsAtAct, IsHolding, view_in, view_of}
-use Rattle.cell_words.specs.declared.view.View.{View}
+use Rattle.cell_words.proofs.Names.{has, dependents_at, act_of, freed_by, Known, act_in, by_sight, IsAtAct, IsHolding, view_in, view_of, View}
 use Rattle.cell_words.proofs.ActLemmas.{at_active, holds_only}
 use Rattle.cell_words.proofs.StepLemmas.{has_push}
 use Rattle.cell_words.proofs.SeatLemmas.{plan_of, known_seen}

@@ -1,11 +1,9 @@
 use Rattle.std.proofs.Common.{rules, ◌≡◌, ℕ, ◌+◌, List, [], ◌∷◌, ◌++◌, refl, sym, ap, ◌∙◌, subst, get_or, All, eq-eqb, ne_eqb, eqb, true}
 use Rattle.std.proofs.lemmas.Fn.{FoldsTo-push}
 use Rattle.std.proofs.lemmas.List.Elements.{All-nil, All-push}
-use Rattle.amp_plan.specs.Needs.{has, dependents_at}
-use Rattle.cell_words.specs.Acts.{act_of, freed_by}
-use Rattle.cell_words.specs.Seats.{IsAtAct, view_of, plan_of}
-use Rattle.cell_words.specs.declared.countdown.CountSeat.{CountSeat}
-use Rattle.cell_words.proofs.BookLemmas.{when, unless, has_at}
+use Rattle.cell_words.proofs.Names.{has, dependents_at, act_of, freed_by, IsAtAct, view_of, CountSeat, when, unless}
+use Rattle.cell_words.specs.Seats.{plan_of}
+use Rattle.cell_words.proofs.BookLemmas.{has_at}
 use Rattle.cell_words.proofs.SeatLemmas.{freed_is}
 use Rattle.cell_words.proofs.countdown.Countdown.fill_at.Goals.{then-sign-eq1, else-sign-eq1}
 use Rattle.cell_words.proofs.countdown.Countdown.fill_at.Goals as goal

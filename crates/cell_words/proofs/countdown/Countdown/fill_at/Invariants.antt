@@ -1,9 +1,7 @@
 use Rattle.std.proofs.Common.{◌≡◌, [], ◌∷◌, ◌++◌, true, All}
-use Rattle.amp_plan.specs.Needs.{has, dependents_at}
 use Rattle.std.specs.List.{FoldsTo}
-use Rattle.cell_words.specs.Countdown.{tail_of}
-use Rattle.cell_words.specs.Acts.{act_of, freed_by}
-use Rattle.cell_words.specs.Seats.{IsAtAct, view_of, plan_of}
+use Rattle.cell_words.proofs.Names.{has, dependents_at, tail_of, act_of, freed_by, IsAtAct, view_of}
+use Rattle.cell_words.specs.Seats.{plan_of}
 use Rattle.cell_words.proofs.countdown.Countdown.fill_at.Given as goal
 
 abbrev pub invariant-loop-i : goal.invariant-loop-i

@@ -1,10 +1,6 @@
-use Rattle.std.proofs.Common.{◌≡◌, ℕ, ◌++◌, [], ◌∷◌, sym, ap, ◌∙◌, ⊎_elim, Some, None, eq-eqb, ne_eqb}
-use Rattle.std.specs.Prelude.{nat_eq}
-use Rattle.cell_words.specs.Countdown.{FILLED, act_in, claimed, looked}
-use Rattle.cell_words.specs.Seats.{view_of}
-use Rattle.cell_words.specs.declared.view.Act.{Act}
-use Rattle.cell_words.specs.declared.view.View.{View}
-use Rattle.cell_words.proofs.BookLemmas.{when, unless}
+use Rattle.std.proofs.Common.{◌≡◌, ℕ, ◌++◌, [], ◌∷◌, sym, ap, ◌∙◌, ⊎_elim, Some, None, eq-eqb, ne_eqb, nat_eq}
+use Rattle.cell_words.proofs.Names.{FILLED, act_in, claimed, view_of, Act, View, when, unless}
+use Rattle.cell_words.specs.Countdown.{looked}
 use Rattle.cell_words.proofs.PlanFacts.{is_planned}
 use Rattle.cell_words.proofs.WholeLemmas.{whole_word}
 use Rattle.cell_words.proofs.countdown.Countdown.fill_first.Goals as goal

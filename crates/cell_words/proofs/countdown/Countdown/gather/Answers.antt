@@ -1,8 +1,6 @@
 use Rattle.std.proofs.Common.{◌≡◌, ℕ, suc, ◌<◌, length, take, get_or, refl, sym, ap, ◌∙◌, subst, arith, add-one, Some, get_or-set_other}
+use Rattle.cell_words.proofs.Names.{view_in, CountSeat, IsGathered}
 use Rattle.cell_words.specs.Countdown.{joined}
-use Rattle.cell_words.specs.Seats.{view_in}
-use Rattle.cell_words.specs.declared.countdown.CountSeat.{CountSeat}
-use Rattle.cell_words.specs.Deals.{IsGathered}
 use Rattle.cell_words.proofs.PartLemmas.{joins}
 use Rattle.cell_words.proofs.SeatLemmas.{token_after, live}
 use Rattle.cell_words.proofs.GatherLemmas.{portion_of, gather_more, taken_more}

@@ -1,8 +1,5 @@
-use Rattle.std.proofs.Common.{◌≡◌, ℕ, ◌≤◌, take}
-use Rattle.std.specs.Prelude.{slice_index_or}
-use Rattle.cell_words.specs.Seats.{IsToken}
-use Rattle.cell_words.specs.Deals.{AreTaken, IsGathered}
-use Rattle.cell_words.specs.declared.countdown.CountSeat.{CountSeat}
+use Rattle.std.proofs.Common.{◌≡◌, ℕ, ◌≤◌, take, slice_index_or}
+use Rattle.cell_words.proofs.Names.{IsToken, AreTaken, IsGathered, CountSeat}
 use Rattle.cell_words.proofs.countdown.Countdown.gather.Given as goal
 
 abbrev pub invariant-loop-k : goal.invariant-loop-k

@@ -1,6 +1,5 @@
 use Rattle.std.proofs.Common.{◌<◌, arith, sym, subst}
-use Rattle.amp_plan.specs.Plans.{Planning}
-use Rattle.cell_words.specs.Layout.{cells}
+use Rattle.cell_words.proofs.Names.{Planning, cells}
 use Rattle.cell_words.proofs.StepLemmas.{looks}
 use Rattle.cell_words.proofs.SeatLemmas.{token_in, live}
 use Rattle.cell_words.proofs.countdown.Countdown.load.Goals as goal

@@ -1,5 +1,5 @@
 use Rattle.std.proofs.Common.{sym, ap, ◌∙◌, subst}
-use Rattle.cell_words.specs.Resuming.{CanResume, carried_in}
+use Rattle.cell_words.proofs.Names.{CanResume, carried_in}
 use Rattle.cell_words.proofs.ResumeLemmas.{nothing_to_resume, nothing_carried, resumed_new}
 use Rattle.cell_words.proofs.countdown.Countdown.make.Goals as goal
 

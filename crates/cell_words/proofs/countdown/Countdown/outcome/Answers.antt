@@ -1,4 +1,4 @@
-use Rattle.cell_words.specs.Layout.{code_of, outcome_at}
+use Rattle.cell_words.proofs.Names.{code_of, outcome_at}
 use Rattle.cell_words.proofs.countdown.Countdown.outcome.Goals as goal
 
 pub decode-requires : goal.decode-requires

@@ -1,7 +1,5 @@
-use Rattle.std.proofs.Common.{rules, ◌≡◌, ◌++◌, ◌≤◌, [], ◌∷◌, length, true, refl}
-use Rattle.std.specs.Prelude.{vec_capacity}
-use Rattle.amp_plan.specs.Needs.{dependents_at}
-use Rattle.cell_words.specs.Acts.{act_of}
+use Rattle.std.proofs.Common.{rules, ◌≡◌, ◌++◌, ◌≤◌, [], ◌∷◌, length, true, refl, vec_capacity}
+use Rattle.cell_words.proofs.Names.{dependents_at, act_of}
 use Rattle.cell_words.proofs.SeatLemmas.{done_seat}
 use Rattle.cell_words.proofs.countdown.Countdown.receipt.Goals as goal
 

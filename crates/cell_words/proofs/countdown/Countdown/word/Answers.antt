@@ -1,11 +1,6 @@
 use Rattle.std.proofs.Common.{◌≡◌, ℕ, suc, ◌+◌, ◌*◌, arith, sym, ap, ◌∙◌, subst, Some}
-use mathlib.Core.Option.{none}
-use Rattle.atomic_table.specs.Table.{Allows, step}
-use Rattle.amp_plan.specs.Plans.{Planning}
-use Rattle.cell_words.specs.Layout.{code_of, outcome_at}
-use Rattle.cell_words.specs.Words.{IsSized}
-use Rattle.cell_words.specs.Countdown.{Keeps, Read, Known}
-use Rattle.cell_words.specs.Seats.{view_in}
+use Rattle.cell_words.proofs.Names.{none, Allows, step, Planning, code_of, outcome_at, IsSized, Known, view_in}
+use Rattle.cell_words.specs.Countdown.{Keeps, Read}
 use Rattle.cell_words.proofs.StepLemmas.{reads}
 use Rattle.cell_words.proofs.SeatLemmas.{token_in, live}
 use Rattle.cell_words.proofs.countdown.Countdown.word.Goals as goal
@@ -20,22 +15,14 @@ load-requires c =
     let at : 5 * r + k + 1 ≡ 5 * r + suc k = omega arith in
     (q.table, omega (arith, b.sized, c.requires.rank), rw at ok)
 
-pub returns-clause-seat : goal.returns-clause-seat
-returns-clause-seat c =
-    let s = c.args.seat.now in let x = c.in-Some.place in let e = c.load.ensures in
+pub returns : goal.returns
+returns c =
+    let b = c.args.self.now in let s = c.args.seat.now in let x = c.in-Some.place in let r : ℕ = c.args.rank in let k : ℕ = c.args.at in let e = c.load.ensures in
+    let q = token_in b s x c.in-Some.is c.requires.token in
+    let at : 5 * r + k + 1 ≡ 5 * r + suc k = omega arith in
     let same : Some c.load.new.seat ≡ s.place = (λ i. Some (record { marker = x.marker; table_id = e.0 i; id = e.1 i; me = e.2.0 i })) ∙ sym c.in-Some.is in
-    λ i. record { place = same i; number = s.number; held = s.held; done = s.done }
-
-pub returns-clause-value : goal.returns-clause-value
-returns-clause-value c =
-    let b = c.args.self.now in let x = c.in-Some.place in let r : ℕ = c.args.rank in let k : ℕ = c.args.at in
-    let q = token_in b c.args.seat.now x c.in-Some.is c.requires.token in
-    let at : 5 * r + k + 1 ≡ 5 * r + suc k = omega arith in
-    (c.load.ensures.2.1 r k at c.requires.at).0 ∙ ap (λ (p : Planning). code_of p r k) q.plan
-
-pub returns-clause-sized : goal.returns-clause-sized
-returns-clause-sized c =
-    let b = c.args.self.now in let x = c.in-Some.place in let r : ℕ = c.args.rank in let k : ℕ = c.args.at in
-    let q = token_in b c.args.seat.now x c.in-Some.is c.requires.token in
-    let at : 5 * r + k + 1 ≡ 5 * r + suc k = omega arith in
-    subst (λ (p : Planning). IsSized (outcome_at p r)) q.plan (c.load.ensures.2.1 r k at c.requires.at).1
+    let read = e.2.1 r k at c.requires.at in record {
+      seat = λ i. record { place = same i; number = s.number; held = s.held; done = s.done };
+      value = read.0 ∙ ap (λ (p : Planning). code_of p r k) q.plan;
+      sized = subst (λ (p : Planning). IsSized (outcome_at p r)) q.plan read.1;
+    }

@@ -1,5 +1,4 @@
-use Rattle.std.proofs.Common.{◌≡◌, ◌≤◌, All}
-use Rattle.std.specs.Prelude.{vec_len, vec_capacity}
+use Rattle.std.proofs.Common.{◌≡◌, ◌≤◌, All, vec_len, vec_capacity}
 use Rattle.cell_words.specs.LevelSeats.{IsPlaceOf, IsAsker, IsUnseen}
 use Rattle.cell_words.proofs.frontier.Frontier.askers.Given as goal
 

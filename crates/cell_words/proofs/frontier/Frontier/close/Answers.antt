@@ -1,20 +1,10 @@
-use Rattle.std.proofs.Common.{◌≡◌, ℕ, suc, ◌<◌, ◌+◌, ◌-◌, ◌++◌, List, [], ◌∷◌, take, length, set, replicate, Some, None, arith, sym, ap, ap₂, ◌∙◌}
-use Rattle.std.proofs.lemmas.List.{take_more, take_all, length-take-le}
-use Rattle.amp_terms.specs.declared.Outcome.{Outcome}
+use Rattle.std.proofs.Common.{◌≡◌, ℕ, suc, ◌<◌, ◌+◌, ◌-◌, ◌++◌, [], ◌∷◌, take, length, set, replicate, Some, None, arith, sym, ap, ap₂, ◌∙◌, take_all, length-take-le}
 use Rattle.amp_terms.proofs.FillingLemmas.{filled, filled-set, length-filled}
-use Rattle.cell_words.specs.Layout.{cells}
-use Rattle.cell_words.specs.Levels.{cells_to, table_to}
-use Rattle.cell_words.specs.declared.frontier.Frontier.{Frontier}
-use Rattle.cell_words.specs.declared.frontier.FillSeat.{FillSeat}
-use Rattle.cell_words.specs.LevelSeats.{IsFiller}
+use Rattle.cell_words.proofs.Names.{take_more, cells, cells_to}
+use Rattle.cell_words.specs.Levels.{table_to}
 use Rattle.cell_words.proofs.LevelLemmas.{level-inside}
-use Rattle.cell_words.proofs.FillerLemmas.{length-taken}
+use Rattle.cell_words.proofs.FillerLemmas.{many}
 use Rattle.cell_words.proofs.frontier.Frontier.close.Goals as goal
-
--- so many outcomes there are
-many : (b : Frontier) (f : FillSeat) (items : List Outcome) → IsFiller b f → items ≡ f.outcomes.items → length items ≡ cells_to b.plan f.published
-many b f items filler is =
-    ap length (is ∙ filler.outcomes) ∙ length-taken b.plan (cells_to b.plan f.published) (level-inside b.plan f.published (let e = filler.of.3 in omega (arith, filler.published, e)))
 
 pub loop-rank-init : goal.loop-rank-init
 unfolding filled

@@ -1,6 +1,6 @@
 use Rattle.std.proofs.Common.{◌≡◌, ◌≤◌, ◌-◌, take}
 use Rattle.amp_terms.proofs.FillingLemmas.{filled}
-use Rattle.cell_words.specs.Layout.{cells}
+use Rattle.cell_words.proofs.Names.{cells}
 use Rattle.cell_words.proofs.frontier.Frontier.close.Given as goal
 
 abbrev pub invariant-loop-rank : goal.invariant-loop-rank

@@ -1,8 +1,6 @@
 use Rattle.std.proofs.Common.{ℕ, suc, ◌*◌, ◌<◌, arith, sym, subst, add-one}
-use mathlib.Core.Option.{none}
-use Rattle.atomic_table.specs.Table.{Allows, step}
-use Rattle.amp_plan.specs.Plans.{Planning}
-use Rattle.cell_words.specs.Levels.{cells_to, Keeps, Reads}
+use Rattle.cell_words.proofs.Names.{none, Allows, step, Planning, cells_to}
+use Rattle.cell_words.specs.Levels.{Keeps, Reads}
 use Rattle.cell_words.proofs.LevelSteps.{reads}
 use Rattle.cell_words.proofs.LevelLemmas.{level-inside}
 use Rattle.cell_words.proofs.frontier.Frontier.load_word.Goals as goal

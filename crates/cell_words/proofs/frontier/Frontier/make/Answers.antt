@@ -1,13 +1,10 @@
-use Rattle.std.proofs.Common.{rules, ◌∷◌, ◌≡◌, ℕ, ◌+◌, ◌*◌, [], length, arith, refl, sym, ap, ◌∙◌, replicate, get_or}
+use Rattle.std.proofs.Common.{rules, ◌∷◌, ◌≡◌, ℕ, ◌+◌, ◌*◌, [], length, arith, refl, sym, ap, ◌∙◌, replicate, get_or, take, List}
 use Rattle.std.proofs.lemmas.List.{get_or-replicate, length-replicate}
-use Rattle.cell_words.specs.Layout.{cells}
+use Rattle.cell_words.proofs.Names.{cells, all_outcomes, Outcome}
 use Rattle.cell_words.proofs.LevelSteps.{begins}
 use Rattle.cell_words.proofs.LevelLemmas.{no-levels}
-use Rattle.std.specs.Prelude.{take, List}
-use Rattle.cell_words.specs.Layout.{all_outcomes}
 use Rattle.cell_words.specs.Levels.{first_view, settled}
 use Rattle.cell_words.specs.declared.level_view.View.{View}
-use Rattle.amp_terms.specs.declared.Outcome.{Outcome}
 use Rattle.cell_words.proofs.frontier.Frontier.make.Goals as goal
 
 pub of_words-requires : goal.of_words-requires

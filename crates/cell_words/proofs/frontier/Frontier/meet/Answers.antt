@@ -1,6 +1,6 @@
 use Rattle.std.proofs.Common.{◌≡◌, ℕ, ◌<◌, ◌≤◌, max, arith, sym, ap, ◌∙◌, subst}
-use Rattle.amp_plan.specs.Plans.{Planning}
-use Rattle.cell_words.specs.Levels.{cells_to, joined_as}
+use Rattle.cell_words.proofs.Names.{Planning, cells_to}
+use Rattle.cell_words.specs.Levels.{joined_as}
 use Rattle.cell_words.specs.declared.level_view.View.{View}
 use Rattle.cell_words.specs.declared.level_view.Role.TheVariants.{Asker}
 use Rattle.cell_words.proofs.LevelSteps.{cells_grow}

@@ -1,6 +1,5 @@
 use Rattle.std.proofs.Common.{◌≡◌, ℕ, ◌+◌, ◌*◌, arith, ap, ◌∙◌}
-use Rattle.cell_words.specs.Layout.{outcome_at}
-use Rattle.cell_words.specs.Levels.{value_word}
+use Rattle.cell_words.proofs.Names.{outcome_at, value_word}
 use Rattle.cell_words.proofs.LevelLemmas.{word-of-rank}
 use Rattle.cell_words.proofs.frontier.Frontier.outcome.Goals as goal
 

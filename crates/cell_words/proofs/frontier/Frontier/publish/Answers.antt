@@ -1,7 +1,6 @@
-use Rattle.std.proofs.Common.{◌≡◌, ℕ, ◌+◌, ◌++◌, take, length, arith, refl, sym, ap, ◌∙◌}
-use Rattle.std.specs.Prelude.{get_or}
-use Rattle.cell_words.specs.Layout.{all_outcomes, outcome_at}
-use Rattle.cell_words.specs.Levels.{cells_to, level_after}
+use Rattle.std.proofs.Common.{◌≡◌, ℕ, ◌+◌, ◌++◌, take, length, arith, refl, sym, ap, ◌∙◌, get_or}
+use Rattle.cell_words.proofs.Names.{all_outcomes, outcome_at, cells_to}
+use Rattle.cell_words.specs.Levels.{level_after}
 use Rattle.cell_words.proofs.LevelLemmas.{level-inside}
 use Rattle.cell_words.proofs.FillerLemmas.{published-count, refilled, level-length, level-outcome, level-behind}
 use Rattle.cell_words.proofs.frontier.Frontier.publish.Goals as goal

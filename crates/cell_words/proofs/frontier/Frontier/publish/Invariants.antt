@@ -1,7 +1,5 @@
-use Rattle.std.proofs.Common.{◌≡◌, ◌+◌}
-use Rattle.std.specs.Prelude.{vec_len}
-use Rattle.cell_words.specs.Levels.{cells_to}
-use Rattle.cell_words.specs.LevelSeats.{IsFilling}
+use Rattle.std.proofs.Common.{◌≡◌, ◌+◌, vec_len}
+use Rattle.cell_words.proofs.Names.{cells_to, IsFilling}
 use Rattle.cell_words.proofs.frontier.Frontier.publish.Given as goal
 
 abbrev pub invariant-loop-outcome : goal.invariant-loop-outcome

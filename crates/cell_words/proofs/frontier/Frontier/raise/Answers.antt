@@ -1,6 +1,5 @@
 use Rattle.std.proofs.Common.{◌≡◌, suc, ◌*◌, ◌≤◌, arith, sym, ap, ◌∙◌, subst}
-use Rattle.amp_plan.specs.Plans.{Planning}
-use Rattle.cell_words.specs.Levels.{cells_to}
+use Rattle.cell_words.proofs.Names.{Planning, cells_to}
 use Rattle.cell_words.proofs.LevelSteps.{raises}
 use Rattle.cell_words.proofs.frontier.Frontier.raise.Goals as goal
 

@@ -1,13 +1,8 @@
 use Rattle.std.proofs.Common.{◌≡◌, ℕ, ◌<◌, ◌+◌, ◌*◌, ◌++◌, [], ◌∷◌, take, arith, sym, ap, ◌∙◌}
-use Rattle.std.proofs.lemmas.List.{take_more}
-use Rattle.amp_plan.specs.Plans.{Planning}
-use Rattle.amp_terms.specs.declared.Outcome.{Outcome}
-use Rattle.amp_terms.specs.declared.Outcome.TheVariants.{Over}
-use Rattle.cell_words.specs.Words.{word_of}
-use Rattle.cell_words.specs.Layout.{cells, all_outcomes, outcome_at}
-use Rattle.cell_words.specs.Levels.{value_word, wrote, settled}
-use Rattle.cell_words.specs.declared.level_view.View.{View}
 use Rattle.amp_terms.proofs.OutcomeLemmas.{length-all}
+use Rattle.cell_words.proofs.Names.{take_more, Planning, Outcome, Over, word_of, cells, all_outcomes, outcome_at, value_word}
+use Rattle.cell_words.specs.Levels.{wrote, settled}
+use Rattle.cell_words.specs.declared.level_view.View.{View}
 use Rattle.cell_words.proofs.LevelLemmas.{word-of-rank}
 use Rattle.cell_words.proofs.frontier.Frontier.store.Goals as goal
 

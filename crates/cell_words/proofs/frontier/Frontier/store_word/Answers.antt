@@ -1,10 +1,6 @@
 use Rattle.std.proofs.Common.{ℕ, suc, ◌*◌, ◌/◌, ◌<◌, arith, sym, ap, ◌∙◌, subst, add-one}
-use mathlib.Core.Option.{none}
-use Rattle.atomic_table.specs.Table.{Allows, step}
-use Rattle.amp_plan.specs.Plans.{Planning}
-use Rattle.cell_words.specs.Words.{IsSized}
-use Rattle.cell_words.specs.Layout.{cells, outcome_at}
-use Rattle.cell_words.specs.Levels.{value_word, settled, Keeps, Wrote}
+use Rattle.cell_words.proofs.Names.{none, Allows, step, Planning, IsSized, cells, outcome_at, value_word}
+use Rattle.cell_words.specs.Levels.{settled, Keeps, Wrote}
 use Rattle.cell_words.proofs.LevelSteps.{writes}
 use Rattle.cell_words.proofs.frontier.Frontier.store_word.Goals as goal
 

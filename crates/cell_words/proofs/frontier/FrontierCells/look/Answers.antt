@@ -1,8 +1,6 @@
 use Rattle.std.proofs.Common.{◌≡◌, ℕ, ◌<◌, ◌≤◌, Some, arith, sym, ap, ◌∙◌, subst}
-use Rattle.airy_math.specs.Levels.{euler_of}
-use Rattle.amp_plan.specs.Plans.{Planning, key_at}
-use Rattle.cell_words.specs.Layout.{cells}
-use Rattle.cell_words.specs.Levels.{cells_to, looked}
+use Rattle.cell_words.proofs.Names.{euler_of, Planning, key_at, cells, cells_to}
+use Rattle.cell_words.specs.Levels.{looked}
 use Rattle.cell_words.specs.LevelSeats.{ShowsUnfilled}
 use Rattle.cell_words.specs.declared.level_view.View.{View}
 use Rattle.cell_words.proofs.LevelSteps.{cells_grow}
@@ -26,20 +24,18 @@ shown p v n r plan latest low u =
 found : (p : Planning) (v : View) (n r : ℕ) → v.count ≡ n → v.count ≤ p.bound → r < cells p → euler_of (key_at p r) ≤ n → r < cells_to p v.count
 found p v n r same within low h = (level-ranks p v.count r within low).1 (omega arith)
 
-pub outcome-requires-clause-known : goal.outcome-requires-clause-known
+pub outcome-requires : goal.outcome-requires
 unfolding euler_of
-outcome-requires-clause-known c =
-    let p = c.args.self.now.plan in
-    let e : c.euler.result ≡ euler_of (key_at p c.args.rank) = c.euler.ensures ∙ ap euler_of c.key.ensures in
-    found p c.load_count-count.new.seat.me.0 c.load_count-count.result c.args.rank (ap (λ (u : View). u.count) c.load_count-count.ensures.view) c.load_count-count.ensures.seat.3 c.requires.rank (omega (arith, e, c.from.ensures, c.if-from-count.true))
-
-pub outcome-requires-clause-sized : goal.outcome-requires-clause-sized
-unfolding euler_of
-outcome-requires-clause-sized c =
-    let p = c.args.self.now.plan in
-    let e : c.euler.result ≡ euler_of (key_at p c.args.rank) = c.euler.ensures ∙ ap euler_of c.key.ensures in
-    c.load_count-count.ensures.sized c.args.rank (subst (λ k. c.args.rank < cells_to p k) (ap (λ (u : View). u.count) c.load_count-count.ensures.view)
-    (found p c.load_count-count.new.seat.me.0 c.load_count-count.result c.args.rank (ap (λ (u : View). u.count) c.load_count-count.ensures.view) c.load_count-count.ensures.seat.3 c.requires.rank (omega (arith, e, c.from.ensures, c.if-from-count.true))))
+outcome-requires c =
+    let p = c.args.self.now.plan in let r : ℕ = c.args.rank in let k = c.load_count-count.ensures in
+    let e : c.euler.result ≡ euler_of (key_at p r) = c.euler.ensures ∙ ap euler_of c.key.ensures in
+    let count = ap (λ (u : View). u.count) k.view in
+    let known = found p c.load_count-count.new.seat.me.0 c.load_count-count.result r count k.seat.3 c.requires.rank (omega (arith, e, c.from.ensures, c.if-from-count.true)) in record {
+      seat = k.seat;
+      asks = ap (λ (u : View). u.role) k.view ∙ c.requires.seat.1;
+      known = known;
+      sized = k.sized r (subst (λ n. r < cells_to p n) count known);
+    }
 
 pub returns-then-from-count-clause-keeps : goal.returns-then-from-count-clause-keeps
 returns-then-from-count-clause-keeps c = λ r known.

@@ -1,8 +1,5 @@
-use Rattle.std.proofs.Common.{sym, ◌∙◌, lt-ltb}
-use lib.Dec.{ltb}
-use Rattle.cell_words.specs.Layout.{outcome_at, lower_outcomes}
-use Rattle.amp_terms.specs.declared.Outcome.TheVariants.{Over}
-use Rattle.cell_words.proofs.BookLemmas.{when}
+use Rattle.std.proofs.Common.{sym, ◌∙◌, lt-ltb, ltb}
+use Rattle.cell_words.proofs.Names.{outcome_at, lower_outcomes, Over, when}
 use Rattle.cell_words.proofs.reader.ReaderSeen.at.Goals as goal
 
 pub returns-clause-outcome : goal.returns-clause-outcome

@@ -9,8 +9,9 @@ use Rattle.frac128.specs.declared.fraction.FracErr.TheVariants.{ZeroDen, Over}
 use Rattle.airy_math.specs.Rational.{◌/ℚ◌}
 use Rattle.running_sum.specs.Kept.{fraction_of}
 use Rattle.running_sum.proofs.NumberLemmas.{made, not_least}
-use Rattle.running_sum.proofs.UnreducedLemmas.{none_of, some_of, positive-product}
+use Rattle.running_sum.proofs.UnreducedLemmas.{none_of, some_of}
 use Rattle.running_sum.proofs.unreduced.Unreduced.value.Goals as goal
+use Rattle.running_sum.proofs.CertifiedLaw.{positive-product}
 
 pub returns-then-self-eq0 : goal.returns-then-self-eq0
 returns-then-self-eq0 c = sym (none_of c.self.inside.num c.self.inside.twos) ∙ ap (λ o. fraction_of c.self.inside.num o c.self.inside.twos) (sym c.if-self-eq0.true) ∙ c.self.view_is

@@ -1,9 +1,9 @@
-use Rattle.std.proofs.Common.{rules, arith, ◌≡◌, ◌*◌, ◌+◌, to_z, of_z, ◌*ℤ◌, ap₂, ◌∙◌}
+use Rattle.std.proofs.Common.{rules, arith, ◌≡◌, to_z, of_z, ◌*ℤ◌, ap₂, ◌∙◌}
 use Rattle.std.specs.Int.{w64, w128}
 use Rattle.airy_math.specs.Obtained.{◌⊛◌}
-use Rattle.running_sum.proofs.NumberLemmas.{small_number}
-use Rattle.running_sum.proofs.UnreducedLemmas.{product_of, words_fit, size-shifted}
+use Rattle.running_sum.proofs.UnreducedLemmas.{product_of, words_fit}
 use Rattle.running_sum.proofs.words.Word.product.Goals as goal
+use Rattle.frac128.proofs.SignLemmas.{small_number}
 
 pub invariant_of-result : goal.invariant_of-result
 invariant_of-result c =

@@ -1,5 +1,4 @@
-use Rattle.std.proofs.Common.{◌≡◌, []}
-use Rattle.std.specs.Prelude.{replicate}
+use Rattle.std.proofs.Common.{◌≡◌, [], replicate}
 use Rattle.sparse_tensor.proofs.grid.Grid.empty.Given as goal
 
 abbrev pub invariant-loop-row : goal.invariant-loop-row

@@ -14,5 +14,5 @@ returns c =
     record { below = omega arith; number = c.row_number.ensures.value; within = omega arith } in
     c.value.ensures
     ∙ ap (λ es. value_of es c.args.k) c.index-row.ensures
-    ∙ sym (grid-value dim c.args.i c.args.j c.args.k c.row_number.result rows c.index-row.result.now is_row)
+    ∙ sym (grid-value dim c.args.i c.args.j c.row_number.result rows c.index-row.result.now is_row c.args.k)
     ∙ ap (λ (p : Places). value_at p.entries c.args.i c.args.j c.args.k) c.self.view_is

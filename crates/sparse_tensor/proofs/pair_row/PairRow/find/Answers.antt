@@ -1,9 +1,8 @@
 use Rattle.std.proofs.Common.{◌≡◌, ℕ, rules, sym, ◌∙◌, subst, List}
 use Rattle.airy_math.specs.Rational.{ℚ}
 use Rattle.std.proofs.lemmas.List.Sorted.{answers_always}
-use Rattle.sparse_tensor.specs.Rows.{IsAscendingByPair}
-use Rattle.sparse_tensor.specs.Rows.{FindsPair}
-use Rattle.sparse_tensor.proofs.PairLemmas.{finds-pair}
+use Rattle.sparse_tensor.specs.Rows.{IsAscendingByPair, FindsPair}
+use Rattle.sparse_tensor.proofs.RowLemmas.{finds-pair}
 use Rattle.sparse_tensor.proofs.pair_row.PairRow.find.Goals as goal
 
 pub returns : goal.returns

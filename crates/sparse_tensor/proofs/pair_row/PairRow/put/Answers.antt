@@ -1,8 +1,7 @@
 use Rattle.std.proofs.Common.{rules, ◌≡◌, List, ℕ, subst}
 use Rattle.airy_math.specs.Rational.{ℚ}
-use Rattle.sparse_tensor.specs.Rows.{with_pair}
-use Rattle.sparse_tensor.specs.Rows.{IsAscendingByPair}
-use Rattle.sparse_tensor.proofs.PairLemmas.{ascending-with_pair}
+use Rattle.sparse_tensor.specs.Rows.{with_pair, IsAscendingByPair}
+use Rattle.sparse_tensor.proofs.RowLemmas.{ascending-with_pair}
 use Rattle.sparse_tensor.proofs.pair_row.PairRow.put.Goals as goal
 
 pub invariant_of-self-in-Err : goal.invariant_of-self-in-Err

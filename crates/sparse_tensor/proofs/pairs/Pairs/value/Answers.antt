@@ -11,5 +11,5 @@ returns c =
     let within : c.args.i < length rows = omega arith in
     c.value.ensures
     ∙ ap (λ es. pair_value es c.args.j c.args.k) c.index-row.ensures
-    ∙ sym (pairs-value c.args.i c.args.j c.args.k rows c.index-row.result.now within)
+    ∙ sym (pairs-value c.args.i rows c.index-row.result.now within c.args.j c.args.k)
     ∙ ap (λ (p : Places). value_at p.entries c.args.i c.args.j c.args.k) c.self.view_is

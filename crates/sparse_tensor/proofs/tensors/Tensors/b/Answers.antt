@@ -19,5 +19,5 @@ returns-else-i-self c =
       | else-i-self-via-else-i-self w ↦ omega (arith, w.if-i-self)
     ] in
     c.whole.ensures
-    ∙ sym (value_at-outside (keeps_b c.self.inside.shape) c.self.inside.dim c.self.inside.b.entries c.args.i c.args.j c.args.k c.self.invariant.entries.b_stored out)
+    ∙ sym (value_at-outside (keeps_b c.self.inside.shape) c.self.inside.dim c.self.inside.b.entries c.args.i c.args.j c.args.k c.self.invariant.entries.b.stored out)
     ∙ ap (λ (t : Entries). value_at t.b c.args.i c.args.j c.args.k) c.self.view_is
