@@ -1,111 +1,102 @@
--- Puts of a value that may be 0 at a place that holds 0.
-use Rattle.std.proofs.Common.{◌≡◌, ℕ, ◌<◌, Bool, true, false, ◌&&◌, cond, eqb, refl, sym, ap, ap₂, subst, ◌∙◌, arith}
+-- Puts of a value that may be 0 at a place where nothing stands.
+use Rattle.std.proofs.Common.{◌≡◌, ℕ, ◌+◌, ◌<◌, ◌≤◌, ◌⊎◌, inl, inr, Bool, true, false, cond, ltb, List, refl, sym, ap, ap₂, ◌∙◌, arith, pos, ◌-ℤ◌, ℤ}
 use Rattle.std.specs.Prelude.{min, max}
-use Rattle.std.proofs.lemmas.Bool.{eqb-true}
+use Rattle.std.proofs.lemmas.Int.{ints}
 use Rattle.std.proofs.lemmas.Bool.Decides.{nat_tests}
 use Rattle.airy_math.specs.Rational.{ℚ}
 use Rattle.airy_math.specs.RationalLaws.{0ℚ}
+use Rattle.airy_math.specs.Shapes.{per_n}
 use Rattle.airy_math.specs.Tensors.{is_zero}
+use Rattle.airy_math.specs.declared.Shape.{Shape}
 use Rattle.airy_math.proofs.PivotLemmas.{zero_number}
-use Rattle.sparse_tensor.specs.Entries.{Entries, looked_up, value_at}
-use Rattle.sparse_tensor.specs.Grades.{AreEntries, keeps_b, keeps_c, keeps_d}
-use Rattle.sparse_tensor.specs.Puts.{IsAllowed, putting_b, putting_c, putting_d, with_b, with_c, with_d}
-use Rattle.sparse_tensor.proofs.PutLaw.{with_b-zero, with_c-zero, with_d-zero}
-use Rattle.sparse_tensor.proofs.PutFacts.{PutsB, PutsC, PutsD, allowed_b, allowed_c, allowed_d, allowed_free, puts_b, puts_c, puts_d, putting_b-free, putting_c-free, putting_d-free, same_ordered, same_unordered}
+use Rattle.sparse_tensor.specs.Entries.{Entry, Entries, is_given, is_taken, same_place, value_at, with_entry, with_value}
+use Rattle.sparse_tensor.specs.Grades.{keeps, keeps_b, keeps_c, keeps_d}
+use Rattle.sparse_tensor.specs.Puts.{IsAllowed, are_inside, putting, putting_b, putting_c, putting_d, with_b, with_c, with_d}
+use Rattle.sparse_tensor.proofs.EntryLemmas.{value_at-with_entry}
+use Rattle.sparse_tensor.proofs.SoundLaw.{is_zero-0ℚ}
+use Rattle.airy_curve.specs.Filling.{Fits, FitsD, HasRoom, IsPlace}
+use Rattle.sparse_tensor.proofs.PutFacts.{inside}
 
-pub ordered_parts : (a b c i j k : ℕ) → same_ordered a b c i j k ≡ true → (a ≡ i) × (b ≡ j) × (c ≡ k)
-unfolding same_ordered
-ordered_parts a b c i j k h = (grind (arith, nat_tests), grind (arith, nat_tests), grind (arith, nat_tests))
+-- ---- what may be put
 
-pub unordered_parts : (a b c i j k : ℕ) → same_unordered a b c i j k ≡ true → (a ≡ i) × (min b c ≡ min j k) × (max b c ≡ max j k)
-unfolding same_unordered
-unordered_parts a b c i j k h = parts a i (min b c) (min j k) (max b c) (max j k) h
+pub zero_is : (v : ℚ) → v ≡ 0ℚ → is_zero v ≡ true
+zero_is v e = ap is_zero e ∙ is_zero-0ℚ
+
+may : (inside zero graded taken : Bool) → inside ≡ true → (zero ≡ true) ⊎ (graded ≡ true) → taken ≡ false → IsAllowed (putting inside zero graded taken)
+unfolding putting IsAllowed
+may inside true graded taken p q r = rw p tt
+may inside false graded taken p (inl q) r = cc
+may inside false graded taken p (inr q) r = rw (p, q, r) tt
+
+moved : (s : Shape) (x y z : ℤ) → x ≡ y → keeps s y z ≡ true → keeps s x z ≡ true
+moved s x y z e h = ap (λ t. keeps s t z) e ∙ h
+
+module _ (f : ℕ → ℚ) (most : ℕ) (t : Entries) (i j k e : ℕ) (v : ℚ) (at : IsPlace f most t i j k) (high : e ≤ most) where
+  pub may_b : i + j + e ≡ k + 1 → (f e ≡ 0ℚ → v ≡ 0ℚ) → is_taken t.b i j k ≡ false → IsAllowed (putting_b t i j k v)
+  unfolding putting_b keeps_b Fits
+  may_b low none free = may (are_inside t.dim i j k) (is_zero v) (keeps_b t.shape i j k) _ (inside t.dim i j k at.first at.second at.third) (room (at.fits e high)) free
+    where
+      room : (f e ≡ 0ℚ) ⊎ HasRoom t.shape e → (is_zero v ≡ true) ⊎ (keeps_b t.shape i j k ≡ true)
+      room (inl z) = inl (zero_is v (none z))
+      room (inr h) = inr (moved t.shape (pos (i + j) -ℤ pos k) (pos (1 + 0) -ℤ pos e) (per_n t.shape) (omega (arith, ints)) h.b)
+
+  pub may_c : i + e ≡ j + k + 2 → j ≤ k → v ≡ f e → is_taken t.c i j k ≡ false → IsAllowed (putting_c t i j k v)
+  unfolding putting_c keeps_c Fits
+  may_c low ordered value free =
+      let least : min j k ≡ j = omega arith in
+      let greatest : max j k ≡ k = omega arith in
+      may (are_inside t.dim i j k) (is_zero v) (keeps_c t.shape i j k) _ (inside t.dim i j k at.first at.second at.third) (room (at.fits e high)) (ap₂ (is_taken t.c i) least greatest ∙ free)
+    where
+      room : (f e ≡ 0ℚ) ⊎ HasRoom t.shape e → (is_zero v ≡ true) ⊎ (keeps_c t.shape i j k ≡ true)
+      room (inl z) = inl (zero_is v (value ∙ z))
+      room (inr h) = inr (moved t.shape (pos i -ℤ pos (j + k)) (pos 2 -ℤ pos (0 + e)) _ (omega (arith, ints)) h.c')
+
+pub may_d : (t : Entries) (i : ℕ) (v : ℚ) → i < t.dim → FitsD t.shape i v → is_given t.d i ≡ false → IsAllowed (putting_d t i v)
+unfolding putting_d FitsD
+may_d t i v p fits free = may (ltb i t.dim) (is_zero v) (keeps_d t.shape i) _ (grind (arith, nat_tests)) (room fits) free
   where
-    parts : (a i b j c k : ℕ) → (eqb a i && eqb b j && eqb c k) ≡ true → (a ≡ i) × (b ≡ j) × (c ≡ k)
-    parts a i b j c k h = (grind (arith, nat_tests), grind (arith, nat_tests), grind (arith, nat_tests))
+    room : (v ≡ 0ℚ) ⊎ (keeps_d t.shape i ≡ true) → (is_zero v ≡ true) ⊎ (keeps_d t.shape i ≡ true)
+    room (inl z) = inl (zero_is v z)
+    room (inr h) = inr h
 
-kept : (same : Bool) (v f : ℚ) → (same ≡ true → f ≡ v) → f ≡ cond same v f
-kept true v f h = h refl
-kept false v f h = refl
+-- ---- what a put leaves
 
--- What a put that is not refused leaves.
-pub record PutB (t : Entries) (i j k : ℕ) (v : ℚ) : Type 0 where
-  pub allowed : IsAllowed (putting_b t i j k v)
-  pub left : PutsB (looked_up t) (looked_up (with_b t i j k v)) i j k v
+-- the list with one more entry; a value of 0 adds none
+abbrev pub put_list : Entry → List Entry → List Entry
+put_list x es = cond (is_zero x.v) es (with_entry x es)
 
-pub put_b : (t : Entries) (i j k : ℕ) (v : ℚ) → AreEntries t → i < t.dim → j < t.dim → k < t.dim → keeps_b t.shape i j k ≡ true → (looked_up t).B i j k ≡ 0ℚ → PutB t i j k v
-unfolding putting_b
-put_b t i j k v sound p q r graded zero = by (is_zero v) refl
+pub b-is : (t : Entries) (i j k : ℕ) (v : ℚ) → with_b t i j k v ≡ record t { b = put_list (record { i = i; j = j; k = k; v = v }) t.b }
+unfolding with_b
+b-is t i j k v = by (is_zero v)
   where
-    same : v ≡ 0ℚ → (a b c : ℕ) → same_ordered a b c i j k ≡ true → (looked_up t).B a b c ≡ v
-    same e a b c h = let parts = ordered_parts a b c i j k h in ap₂ (λ x y. (looked_up t).B x y c) parts.0 parts.1 ∙ ap ((looked_up t).B i j) parts.2 ∙ zero ∙ sym e
+    by : (z : Bool) → cond z t (record t { b = with_entry (record { i = i; j = j; k = k; v = v }) t.b }) ≡ record t { b = cond z t.b (with_entry (record { i = i; j = j; k = k; v = v }) t.b) }
+    by true = refl
+    by false = refl
 
-    by : (z : Bool) → is_zero v ≡ z → PutB t i j k v
-    by false e =
-        let free = putting_b-free t i j k v sound p q r e graded zero in
-        record { allowed = allowed_free _ free; left = puts_b t i j k v free }
-    by true e = record {
-      allowed = allowed_b t i j k v sound p q r graded zero;
-      left = subst (λ u. PutsB (looked_up t) (looked_up u) i j k v) (with_b-zero t i j k v e) (record {
-        dim = refl;
-        shape = refl;
-        A = λ a b c. refl;
-        B = λ a b c. kept (same_ordered a b c i j k) v ((looked_up t).B a b c) (same (zero_number v e) a b c);
-        C = λ a b c. refl;
-        D = λ a. refl;
-      });
-    }
-
-pub record PutC (t : Entries) (i j k : ℕ) (v : ℚ) : Type 0 where
-  pub allowed : IsAllowed (putting_c t i j k v)
-  pub left : PutsC (looked_up t) (looked_up (with_c t i j k v)) i j k v
-
-pub put_c : (t : Entries) (i j k : ℕ) (v : ℚ) → AreEntries t → i < t.dim → j < t.dim → k < t.dim → keeps_c t.shape i j k ≡ true → (looked_up t).C i j k ≡ 0ℚ → PutC t i j k v
-unfolding putting_c looked_up
-put_c t i j k v sound p q r graded zero = by (is_zero v) refl
+pub c-is : (t : Entries) (i j k : ℕ) (v : ℚ) → j ≤ k → with_c t i j k v ≡ record t { c = put_list (record { i = i; j = j; k = k; v = v }) t.c }
+unfolding with_c
+c-is t i j k v ordered = by (is_zero v) (min j k) (max j k) (omega arith) (omega arith)
   where
-    same : v ≡ 0ℚ → (a b c : ℕ) → same_unordered a b c i j k ≡ true → value_at t.c a (min b c) (max b c) ≡ v
-    same e a b c h = let parts = unordered_parts a b c i j k h in ap₂ (λ x y. value_at t.c x y (max b c)) parts.0 parts.1 ∙ ap (value_at t.c i (min j k)) parts.2 ∙ zero ∙ sym e
+    by : (z : Bool) (m n : ℕ) → m ≡ j → n ≡ k → cond z t (record t { c = with_entry (record { i = i; j = m; k = n; v = v }) t.c }) ≡ record t { c = cond z t.c (with_entry (record { i = i; j = j; k = k; v = v }) t.c) }
+    by true m n p q = refl
+    by false m n p q = ap₂ (λ a b. record t { c = with_entry (record { i = i; j = a; k = b; v = v }) t.c }) p q
 
-    by : (z : Bool) → is_zero v ≡ z → PutC t i j k v
-    by false e =
-        let free = putting_c-free t i j k v sound p q r e graded zero in
-        record { allowed = allowed_free _ free; left = puts_c t i j k v free }
-    by true e = record {
-      allowed = allowed_c t i j k v sound p q r graded zero;
-      left = subst (λ u. PutsC (looked_up t) (looked_up u) i j k v) (with_c-zero t i j k v e) (record {
-        dim = refl;
-        shape = refl;
-        A = λ a b c. refl;
-        B = λ a b c. refl;
-        C = λ a b c. kept (same_unordered a b c i j k) v ((looked_up t).C a b c) (same (zero_number v e) a b c);
-        D = λ a. refl;
-      });
-    }
-
-pub record PutD (t : Entries) (i : ℕ) (v : ℚ) : Type 0 where
-  pub allowed : IsAllowed (putting_d t i v)
-  pub left : PutsD (looked_up t) (looked_up (with_d t i v)) i v
-
-pub put_d : (t : Entries) (i : ℕ) (v : ℚ) → AreEntries t → i < t.dim → keeps_d t.shape i ≡ true → (looked_up t).D i ≡ 0ℚ → PutD t i v
-unfolding putting_d
-put_d t i v sound p graded zero = by (is_zero v) refl
+pub d-is : (t : Entries) (i : ℕ) (v : ℚ) → with_d t i v ≡ record t { d = cond (is_zero v) t.d (with_value i v t.d) }
+unfolding with_d
+d-is t i v = by (is_zero v)
   where
-    same : v ≡ 0ℚ → (a : ℕ) → eqb a i ≡ true → (looked_up t).D a ≡ v
-    same e a h = ap (looked_up t).D (eqb-true a i h) ∙ zero ∙ sym e
+    by : (z : Bool) → cond z t (record t { d = with_value i v t.d }) ≡ record t { d = cond z t.d (with_value i v t.d) }
+    by true = refl
+    by false = refl
 
-    by : (z : Bool) → is_zero v ≡ z → PutD t i v
-    by false e =
-        let free = putting_d-free t i v sound p e graded zero in
-        record { allowed = allowed_free _ free; left = puts_d t i v free }
-    by true e = record {
-      allowed = allowed_d t i v sound p graded zero;
-      left = subst (λ u. PutsD (looked_up t) (looked_up u) i v) (with_d-zero t i v e) (record {
-        dim = refl;
-        shape = refl;
-        A = λ a b c. refl;
-        B = λ a b c. refl;
-        C = λ a b c. refl;
-        D = λ a. kept (eqb a i) v ((looked_up t).D a) (same (zero_number v e) a);
-      });
-    }
+pub same_parts : (a b c : ℕ) (x : Entry) → same_place a b c x ≡ true → (a ≡ x.i) × (b ≡ x.j) × (c ≡ x.k)
+unfolding same_place
+same_parts a b c x h = (grind (arith, nat_tests), grind (arith, nat_tests), grind (arith, nat_tests))
+
+pub put_at : (es : List Entry) (x : Entry) (a b c : ℕ) → is_taken es x.i x.j x.k ≡ false → value_at es x.i x.j x.k ≡ 0ℚ → value_at (put_list x es) a b c ≡ cond (same_place a b c x) x.v (value_at es a b c)
+put_at es x a b c free zero = by (is_zero x.v) refl (same_place a b c x) refl
+  where
+    by : (z : Bool) → is_zero x.v ≡ z → (s : Bool) → same_place a b c x ≡ s → value_at (cond z es (with_entry x es)) a b c ≡ cond s x.v (value_at es a b c)
+    by false e s p = value_at-with_entry x es a b c free ∙ ap (λ d. cond d x.v (value_at es a b c)) p
+    by true e false p = refl
+    by true e true p = let parts = same_parts a b c x p in ap₂ (λ m n. value_at es m n c) parts.0 parts.1 ∙ ap (value_at es x.i x.j) parts.2 ∙ zero ∙ sym (zero_number x.v e)

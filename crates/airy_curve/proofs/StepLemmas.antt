@@ -1,64 +1,41 @@
 -- The steps for the numbers of a curve, one at a time.
 use Rattle.std.proofs.Common.{◌≡◌, ℕ, zero, suc, ◌+◌, ◌-◌, ◌<◌, ◌≤◌, ◌⊎◌, inl, inr, List, [], ◌∷◌, get_or, replicate, length, refl, sym, ap, ap₂, ◌∙◌, arith}
-use Rattle.std.specs.Prelude.{Option, Some, None, Err, set}
+use Rattle.std.specs.Prelude.{Option, Some, None, set}
 use Rattle.std.proofs.lemmas.Bool.{cases_eq, cases_lt}
 use Rattle.std.proofs.lemmas.List.{length-set, length-replicate, get_or-set_same, get_or-set_other, get_or_read, get_or_past}
 use Rattle.airy_math.specs.Rational.{ℚ, ◌+ℚ◌, ◌*ℚ◌, neg_ℚ}
 use Rattle.airy_math.specs.RationalLaws.{0ℚ, 1ℚ, +ℚ_assoc, 0ℚ_idl}
 use Rattle.airy_math.specs.Obtained.{obtained_from, obtained_sum, obtained_product, both_obtained}
-use Rattle.airy_math.proofs.ObtainedLaw.{sum_exact, product_exact, none_stays}
+use Rattle.airy_math.proofs.ObtainedLaw.{sum_exact, product_exact, none_stays, self_exact}
 use Rattle.airy_math.proofs.SumLemmas.{0ℚ_idr}
 use Rattle.airy_math.specs.Curves.{paired, numbers_down, first_or_zero, number_of, of_list}
 use Rattle.airy_curve.specs.Numbers.{held, downwards, Holds, Begins}
 use Rattle.airy_curve.specs.Steps.{obtained_products, negative, next_number, unless_obtained, or_else, first_answer, number_refusal, entry_refusal, tensors_refusal}
-use Rattle.airy_curve.specs.Filling.{Tells}
 use Rattle.airy_curve.specs.Storing.{Names}
 use Rattle.airy_curve.specs.declared.making.CurveErr.{CurveErr}
 use Rattle.airy_curve.specs.declared.making.CurveErr.TheVariants.{Over, NoMemory}
 
 -- ---- the first answer
 
-pub answer_goes : (f : ℕ → Option ℕ) (a e : ℕ) → a < e → f a ≡ None → first_answer a (e - a) f ≡ first_answer (a + 1) (e - (a + 1)) f
+pub first_none : (f : ℕ → Option ℕ) (a n : ℕ) → ((x : ℕ) → a ≤ x → x < a + n → f x ≡ None) → first_answer a n f ≡ None
 unfolding first_answer or_else
-answer_goes f a e h n = ap (λ m. first_answer a m f) less ∙ goes (e - (a + 1)) ∙ ap (λ m. first_answer m (e - (a + 1)) f) next
-  where
-    less : e - a ≡ suc (e - (a + 1))
-    less = omega arith
+first_none f a zero h = refl
+first_none f a (suc n) h = rw (h a (omega arith) (omega arith)) (first_none f (suc a) n (λ x p q. h x (omega arith) (omega arith)))
 
-    next : suc a ≡ a + 1
-    next = omega arith
-
-    goes : (m : ℕ) → first_answer a (suc m) f ≡ first_answer (suc a) m f
-    goes m = rw n refl
-
-pub answer_stops : (f : ℕ → Option ℕ) (a e k : ℕ) → a < e → f a ≡ Some k → first_answer a (e - a) f ≡ Some k
+pub first_is : (f : ℕ → Option ℕ) (a n i k : ℕ) → a ≤ i → i < a + n → ((x : ℕ) → a ≤ x → x < i → f x ≡ None) → f i ≡ Some k → first_answer a n f ≡ Some k
 unfolding first_answer or_else
-answer_stops f a e k h n = ap (λ m. first_answer a m f) less ∙ stops (e - (a + 1))
-  where
-    less : e - a ≡ suc (e - (a + 1))
-    less = omega arith
+first_is f a zero i k p q h s = absurd (omega arith)
+first_is f a (suc n) i k p q h s = elim (cases_eq a i) [
+  | inl e ↦ let here : f a ≡ Some k = ap f e ∙ s in rw here refl
+  | inr e ↦ rw (h a (omega arith) (omega (arith, e))) (first_is f (suc a) n i k (omega (arith, e)) (omega arith) (λ x l m. h x (omega arith) m) s)
+]
 
-    stops : (m : ℕ) → first_answer a (suc m) f ≡ Some k
-    stops m = rw n refl
-
-pub answer_ends : (f : ℕ → Option ℕ) (a e : ℕ) → e ≤ a → first_answer a (e - a) f ≡ None
-unfolding first_answer
-answer_ends f a e h = ap (λ m. first_answer a m f) none ∙ ends
-  where
-    none : e - a ≡ 0
-    none = omega arith
-
-    ends : first_answer a 0 f ≡ None
-    ends = refl
-
--- an error that tells the answer at a, where the numbers before it had none
-pub tells_first : (err : CurveErr) (f : ℕ → Option ℕ) (a e : ℕ) → a < e → Tells (Err err) (f a) → Tells (Err err) (first_answer a (e - a) f)
-unfolding Tells Names
-tells_first (Over k) f a e h n = answer_stops f a e k h n
-tells_first NoMemory f a e h n = tt
-
-pub answer_starts : (f : ℕ → Option ℕ) (e : ℕ) → first_answer 0 (e - 0) f ≡ first_answer 0 e f
-answer_starts f e = ap (λ m. first_answer 0 m f) (omega arith)
+-- None before a, and at a
+pub fine_next : (f : ℕ → Option ℕ) (b a : ℕ) → ((x : ℕ) → b ≤ x → x < a → f x ≡ None) → f a ≡ None → (x : ℕ) → b ≤ x → x < a + 1 → f x ≡ None
+fine_next f b a h n x p q = elim (cases_eq x a) [
+  | inl e ↦ ap f e ∙ n
+  | inr e ↦ h x p (omega (arith, e))
+]
 
 -- an error that names what the first steps name, names what all steps name
 names_first : (err : CurveErr) (o later : Option ℕ) → Names err o → Names err (or_else o later)
@@ -124,16 +101,13 @@ module _ (u c : ℕ → ℚ) where
 
 -- ---- what is obtained is exact
 
-some-same : (x w : ℚ) → Some x ≡ Some w → w ≡ x
-some-same x w e = cc
-
 none-some : (w : ℚ) → ◌≡◌ {A = Option ℚ} None (Some w) → ⊥
 none-some w e = cc
 
 module _ (u : ℕ → ℚ) where
   from-exact : (xs : List ℚ) (l : ℕ) (s w : ℚ) → obtained_from (Some s) (obtained_products u l xs) ≡ Some w → w ≡ s +ℚ paired u l xs
   unfolding obtained_from obtained_products paired both_obtained
-  from-exact [] l s w e = some-same s w e ∙ sym (0ℚ_idr s)
+  from-exact [] l s w e = self_exact s w e ∙ sym (0ℚ_idr s)
   from-exact (x ∷ xs) l s w e = by (λ z. from-exact xs (suc l) z w) (obtained_product (u l) x) refl e
     where
       ts : List (Option ℚ)
@@ -156,7 +130,7 @@ module _ (u : ℕ → ℚ) where
     where
       by : (o : Option ℚ) → obtained_from (Some 0ℚ) (obtained_products u 1 xs) ≡ o → negative o ≡ Some w → w ≡ neg_ℚ (paired u 1 xs)
       by None q h = absurd (none-some w h)
-      by (Some y) q h = some-same (neg_ℚ y) w h ∙ ap neg_ℚ (from-exact xs 1 0ℚ y q ∙ 0ℚ_idl _)
+      by (Some y) q h = self_exact (neg_ℚ y) w h ∙ ap neg_ℚ (from-exact xs 1 0ℚ y q ∙ 0ℚ_idl _)
 
   -- c_k, where it is obtained of the numbers before it
   pub number-exact : (k : ℕ) (w : ℚ) → 0 < k → next_number u (numbers_down u (k - 1)) ≡ Some w → w ≡ number_of u k

@@ -7,8 +7,7 @@ use Rattle.airy_math.specs.Rational.{ℚ, whole, ◌/ℚ◌, lowest_zero, lowest
 use Rattle.airy_math.specs.RationalLaws.{0ℚ, 1ℚ}
 use Rattle.airy_math.specs.Sums.{when}
 use Rattle.airy_math.specs.Tensors.{is_zero}
-use Rattle.sparse_tensor.specs.Entries.{Entry, Entries, looked_up, value_of, with_entry, with_value}
-use Rattle.sparse_tensor.specs.Puts.{with_b, with_c, with_d}
+use Rattle.sparse_tensor.specs.Entries.{Entries, looked_up, value_of}
 use Rattle.sparse_tensor.proofs.SoundLaw.{is_zero-some}
 use Rattle.sparse_tensor.proofs.PutFacts.{same_ordered, same_unordered}
 
@@ -24,16 +23,6 @@ both_ok (Err e) P Q S f p q = tt
 pub whole-some : (n : ℕ) → is_zero (whole (suc n)) ≡ false
 unfolding whole 0ℚ
 whole-some n = is_zero-some (pos (suc n) /ℚ 1) (λ e. let none = (lowest_zero (pos (suc n)) 1 (lowest_whole (pos (suc n)))).0 e in cc)
-
-pub when-true : (b : Bool) (x : ℚ) → b ≡ true → when b x ≡ x
-unfolding when
-when-true true x h = refl
-when-true false x h = cc
-
-pub when-false : (b : Bool) (x : ℚ) → b ≡ false → when b x ≡ 0ℚ
-unfolding when
-when-false true x h = cc
-when-false false x h = refl
 
 pub when-zero : (b : Bool) (x : ℚ) → x ≡ 0ℚ → when b x ≡ 0ℚ
 unfolding when
@@ -86,32 +75,3 @@ pub cond-when : (b : Bool) (x y : ℚ) → y ≡ 0ℚ → cond b x y ≡ when b 
 unfolding when
 cond-when true x y h = refl
 cond-when false x y h = h
-
--- ---- what a put leaves
-
-pub others-b : (t : Entries) (i j k : ℕ) (v : ℚ) → with_b t i j k v ≡ record t { b = (with_b t i j k v).b }
-unfolding with_b
-others-b t i j k v = by (is_zero v)
-  where
-    by : (z : Bool) → cond z t (record t { b = with_entry (record { i = i; j = j; k = k; v = v }) t.b }) ≡ record t { b = (cond z t (record t { b = with_entry (record { i = i; j = j; k = k; v = v }) t.b })).b }
-    by true = refl
-    by false = refl
-
-pub others-c : (t : Entries) (i j k : ℕ) (v : ℚ) → with_c t i j k v ≡ record t { c = (with_c t i j k v).c }
-unfolding with_c
-others-c t i j k v = by (is_zero v)
-  where
-    x : Entry
-    x = record { i = i; j = min j k; k = max j k; v = v }
-
-    by : (z : Bool) → cond z t (record t { c = with_entry x t.c }) ≡ record t { c = (cond z t (record t { c = with_entry x t.c })).c }
-    by true = refl
-    by false = refl
-
-pub others-d : (t : Entries) (i : ℕ) (v : ℚ) → with_d t i v ≡ record t { d = (with_d t i v).d }
-unfolding with_d
-others-d t i v = by (is_zero v)
-  where
-    by : (z : Bool) → cond z t (record t { d = with_value i v t.d }) ≡ record t { d = (cond z t (record t { d = with_value i v t.d })).d }
-    by true = refl
-    by false = refl

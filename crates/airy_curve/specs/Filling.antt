@@ -1,44 +1,58 @@
--- How far the entries of a curve are filled.
-use Prim.Native.Nat.{ℕ, ◌-◌, ◌<◌, ◌≤◌, min, max}
+-- The entries of a sequence of numbers, and tensors that are filled with them.
+use Prim.Native.Nat.{ℕ, ◌+◌, ◌*◌, ◌-◌, ◌<◌, ◌≤◌}
 use mathlib.Core.Path.{◌≡◌}
-use mathlib.Core.Bool.{Bool, cond, ◌&&◌, ◌||◌}
-use lib.Dec.{eqb, leb, ltb}
+use mathlib.Core.Bool.{true, cond, ◌&&◌}
+use mathlib.Core.Logic.{◌⊎◌}
+use lib.Dec.{eqb, leb}
 use Rattle.std.specs.Prelude.{Option, Some, None, Result, Ok, Err}
-use lib.IntN.{pos}
-use Rattle.airy_math.specs.Rational.{ℚ, ◌+ℚ◌, ◌/ℚ◌}
+use Rattle.airy_math.specs.Rational.{ℚ, ◌+ℚ◌, ◌*ℚ◌, whole}
+use Rattle.airy_math.specs.RationalLaws.{0ℚ}
 use Rattle.airy_math.specs.Sums.{when}
+use Rattle.airy_math.specs.Curves.{entry}
+use Rattle.airy_math.specs.declared.Shape.{Shape}
 use Rattle.sparse_tensor.specs.Entries.{Entries, looked_up}
-use Rattle.airy_math.specs.Curves.{curve, curve_shape}
+use Rattle.sparse_tensor.specs.Grades.{keeps_b, keeps_c, keeps_d}
 use Rattle.airy_curve.specs.declared.making.CurveErr.{CurveErr}
 use Rattle.airy_curve.specs.Storing.{Names}
 
--- Whether a walk by i, j and k ascending, as in a dictionary, which has come to n, m and l, has passed i, j and k.
-unfoldable pub is_passed : ℕ → ℕ → ℕ → ℕ → ℕ → ℕ → Bool
-is_passed n m l i j k = ltb i n || (eqb i n && (ltb j m || (eqb j m && ltb k l)))
+-- the entries of B and C that the sequence c has, with its exponents up to most
+unfoldable pub entry_b : (ℕ → ℚ) → ℕ → ℕ → ℕ → ℕ → ℚ
+entry_b c most i j k = whole (2 * j + 1) *ℚ entry c most (k + 1) (i + j)
 
--- B is filled with the entries of the sequence c as far as the walk has come, and 0 elsewhere
-unfoldable pub FillsB : (ℕ → ℚ) → ℕ → ℕ → ℕ → ℕ → Entries → Type 0
-FillsB c most n m l t = (i j k : ℕ) → i < t.dim → j < t.dim → k < t.dim
-    → (looked_up t).B i j k ≡ when (is_passed n m l i j k) ((curve c t.dim most).B i j k)
+unfoldable pub entry_c : (ℕ → ℚ) → ℕ → ℕ → ℕ → ℕ → ℚ
+entry_c c most i j k = entry c most (j + k + 2) i
 
--- the same for C, by the lesser of its last two indices
-unfoldable pub FillsC : (ℕ → ℚ) → ℕ → ℕ → ℕ → ℕ → Entries → Type 0
-FillsC c most n m l t = (i j k : ℕ) → i < t.dim → j < t.dim → k < t.dim
-    → (looked_up t).C i j k ≡ when (is_passed n m l i (min j k) (max j k)) ((curve c t.dim most).C i j k)
+-- The shape has room for the exponent e: B^1_0e and C^2_0e, which have it, keep the grading.
+pub record HasRoom (s : Shape) (e : ℕ) : Type 0 where
+  pub b : keeps_b s 1 0 e ≡ true
+  pub c' : keeps_c s 2 0 e ≡ true
 
--- B and C are filled as far as the walk has come, and nothing else of t₀ is changed
-pub record Walks (c : ℕ → ℚ) (most n m l : ℕ) (t₀ t : Entries) : Type 0 where
-  pub b : FillsB c most n m l t
-  pub c' : FillsC c most n m l t
-  pub others : t ≡ record t₀ { b = t.b; c = t.c }
+-- It has room for each number of the sequence that isn't 0.
+unfoldable pub Fits : Shape → (ℕ → ℚ) → ℕ → Type 0
+Fits s c most = (e : ℕ) → e ≤ most → (c e ≡ 0ℚ) ⊎ HasRoom s e
 
--- a place of the tensors of a curve, with exponents that an array of 73 numbers has
-pub record IsPlace (t : Entries) (most i j k : ℕ) : Type 0 where
+-- It has room for the value in D.
+unfoldable pub FitsD : Shape → ℕ → ℚ → Type 0
+FitsD s i v = (v ≡ 0ℚ) ⊎ (keeps_d s i ≡ true)
+
+-- a place of B and C, exponents that an array of 73 numbers has, and room for its numbers
+pub record IsPlace (c : ℕ → ℚ) (most : ℕ) (t : Entries) (i j k : ℕ) : Type 0 where
   pub first : i < t.dim
   pub second : j < t.dim
   pub third : k < t.dim
+  pub dim : t.dim ≤ 72
   pub most' : most ≤ 72
-  pub shape : t.shape ≡ curve_shape
+  pub fits : Fits t.shape c most
+
+-- B and C are filled with the entries of the sequence, and nothing else is changed.
+pub record IsFilled (c : ℕ → ℚ) (most : ℕ) (old new : Entries) : Type 0 where
+  pub b : (i j k : ℕ) → i < old.dim → j < old.dim → k < old.dim → (looked_up new).B i j k ≡ entry_b c most i j k
+  pub c' : (i j k : ℕ) → i < old.dim → j < old.dim → k < old.dim → (looked_up new).C i j k ≡ entry_c c most i j k
+  pub others : new ≡ record old { b = new.b; c = new.c }
+
+-- D is filled, with x at 0 and y at 1
+unfoldable pub FillsD : ℚ → ℚ → Entries → Type 0
+FillsD x y t = (i : ℕ) → i < t.dim → (looked_up t).D i ≡ when (eqb i 0) x +ℚ when (eqb i 1) y
 
 -- m - n, where it is from 0 to most
 unfoldable pub exponent_of : ℕ → ℕ → ℕ → Option ℕ
@@ -48,7 +62,3 @@ exponent_of m n most = cond (leb n m && leb (m - n) most) (Some (m - n)) None
 unfoldable pub Tells : Result Unit CurveErr → Option ℕ → Type 0
 Tells (Ok x) named = named ≡ None
 Tells (Err e) named = Names e named
-
--- D is filled, with v at 0
-unfoldable pub FillsD : ℚ → Entries → Type 0
-FillsD v t = (i : ℕ) → i < t.dim → (looked_up t).D i ≡ when (eqb i 0) v +ℚ when (eqb i 1) (pos 1 /ℚ 8)

@@ -1,10 +1,12 @@
-ghost use Rattle.std.specs.Prelude.{◌≡◌, ◌≤◌, ◌<◌, ◌+◌, ◌-◌, OnOk, []};
-ghost use Rattle.airy_math.specs.Curves.{curve_shape};
-ghost use Rattle.airy_curve.specs.Filling.{FillsB, FillsC, FillsD, IsPlace, Tells, Walks, exponent_of};
+ghost use Rattle.std.specs.Prelude.{◌≡◌, ◌≤◌, ◌<◌, OnOk, [], cond, false, leb};
+ghost use Rattle.sparse_tensor.specs.Entries.{is_given, is_taken};
+ghost use Rattle.sparse_tensor.specs.Puts.{with_b, with_c, with_d};
+ghost use Rattle.airy_curve.specs.Filling.{Fits, FitsD, FillsD, IsFilled, IsPlace, Tells, entry_b, entry_c, exponent_of};
 ghost use Rattle.airy_curve.specs.Numbers.{held};
-ghost use Rattle.airy_curve.specs.Steps.{place_refusal, row_refusal, plane_refusal, entry_refusal};
+ghost use Rattle.airy_curve.specs.Steps.{place_refusal, entry_refusal};
 
-use crate::making::{CurveErr, eighth, unless_wanting};
+use crate::making::{CurveErr, unless_wanting};
+use crate::numbers::number_at;
 use frac128::Frac;
 use sparse_tensor::{NoMemory, Tensors};
 
@@ -29,17 +31,15 @@ fn fill_b(
     j: u8,
     k: u8,
 ) -> Result<(), CurveErr>
-    requires place { IsPlace tensors.old most i j k }
-    requires before { FillsB (held numbers.now) most i j k tensors.old }
-    ensures filled { OnOk result (FillsB (held numbers.now) most i j (k + 1) tensors.new) }
-    ensures others { OnOk result (tensors.new ≡ record tensors.old { b = tensors.new.b }) }
+    requires place { IsPlace (held numbers.now) most tensors.old i j k }
+    requires free { is_taken tensors.old.b i j k ≡ false }
+    ensures put { OnOk result (tensors.new ≡ with_b tensors.old i j k (entry_b (held numbers.now) most i j k)) }
     ensures told { Tells result (place_refusal (held numbers.now) most i j k) }
 {
-    tensors.soundness_fact();
     let Some(e) = exponent(k + 1, i + j, most) else {
         return Ok(());
     };
-    let Some(value) = Frac::whole(2 * j as i64 + 1).mul(numbers[e as usize]) else {
+    let Some(value) = Frac::whole(2 * j as i64 + 1).mul(number_at(numbers, e)) else {
         return Err(CurveErr::Over { k: e });
     };
     unless_wanting(tensors.put_b(i, j, k, value))?;
@@ -55,97 +55,66 @@ fn fill_c(
     j: u8,
     k: u8,
 ) -> Result<(), NoMemory>
-    requires place { IsPlace tensors.old most i j k }
-    requires before { FillsC (held numbers.now) most i j k tensors.old }
-    ensures filled { OnOk result (FillsC (held numbers.now) most i j (k + 1) tensors.new) }
-    ensures others { OnOk result (tensors.new ≡ record tensors.old { c = tensors.new.c }) }
+    requires place { IsPlace (held numbers.now) most tensors.old i j k }
+    requires free { is_taken tensors.old.c i j k ≡ false }
+    ensures { OnOk result (tensors.new ≡ cond (leb j k) (with_c tensors.old i j k (entry_c (held numbers.now) most i j k)) tensors.old) }
 {
-    tensors.soundness_fact();
     if k < j {
         return Ok(());
     }
     let Some(e) = exponent(j + k + 2, i, most) else {
         return Ok(());
     };
-    unless_wanting(tensors.put_c(i, j, k, numbers[e as usize]))
+    unless_wanting(tensors.put_c(i, j, k, number_at(numbers, e)))
 }
 
-/// Puts the entries of B and C at one i, j and k.
-fn fill_place(
-    tensors: &mut Tensors,
-    numbers: &[Frac; 73],
-    most: u8,
-    i: u8,
-    j: u8,
-    k: u8,
-) -> Result<(), CurveErr>
-    requires place { IsPlace tensors.old most i j k }
-    requires before { Walks (held numbers.now) most i j k tensors.old tensors.old }
-    ensures walked { OnOk result (Walks (held numbers.now) most i j (k + 1) tensors.old tensors.new) }
-    ensures told { Tells result (place_refusal (held numbers.now) most i j k) }
-{
-    fill_b(tensors, numbers, most, i, j, k)?;
-    fill_c(tensors, numbers, most, i, j, k)?;
-    Ok(())
-}
-
-/// Puts those at one i and j.
-fn fill_row(
-    tensors: &mut Tensors,
-    numbers: &[Frac; 73],
-    most: u8,
-    i: u8,
-    j: u8,
-) -> Result<(), CurveErr>
-    requires place { IsPlace tensors.old most i j 0 }
-    requires before { Walks (held numbers.now) most i j 0 tensors.old tensors.old }
-    ensures walked { OnOk result (Walks (held numbers.now) most i (j + 1) 0 tensors.old tensors.new) }
-    ensures told { Tells result (row_refusal (held numbers.now) tensors.old.dim most i j) }
-{
-    for k in 0..tensors.dim() {
-        fill_place(tensors, numbers, most, i, j, k)?;
-    }
-    Ok(())
-}
-
-/// Puts those at one i.
-fn fill_plane(tensors: &mut Tensors, numbers: &[Frac; 73], most: u8, i: u8) -> Result<(), CurveErr>
-    requires place { IsPlace tensors.old most i 0 0 }
-    requires before { Walks (held numbers.now) most i 0 0 tensors.old tensors.old }
-    ensures walked { OnOk result (Walks (held numbers.now) most (i + 1) 0 0 tensors.old tensors.new) }
-    ensures told { Tells result (plane_refusal (held numbers.now) tensors.old.dim most i) }
-{
-    for j in 0..tensors.dim() {
-        fill_row(tensors, numbers, most, i, j)?;
-    }
-    Ok(())
-}
-
-/// Puts all entries of B and C, by i, j and k ascending. A product that leaves the range stops it.
-pub(crate) fn fill(tensors: &mut Tensors, numbers: &[Frac; 73], most: u8) -> Result<(), CurveErr>
-    requires place { IsPlace tensors.old most 0 0 0 }
-    requires before { Walks (held numbers.now) most 0 0 0 tensors.old tensors.old }
-    ensures walked { OnOk result (Walks (held numbers.now) most tensors.old.dim 0 0 tensors.old tensors.new) }
+/// Puts all entries of B and C, by i, j and k ascending: `(2j + 1) c_e` in B where `e = k + 1 - i - j` is from 0 to most, and `c_e`
+/// in C where `e = j + k + 2 - i` is; most is at most 72, and the shape has room for each number that isn't 0. A product that leaves
+/// the range stops it.
+pub fn fill(tensors: &mut Tensors, numbers: &[Frac; 73], most: u8) -> Result<(), CurveErr>
+    requires most { most ≤ 72 }
+    requires fits { Fits tensors.old.shape (held numbers.now) most }
+    requires no_b { tensors.old.b ≡ [] }
+    requires no_c { tensors.old.c ≡ [] }
+    ensures filled { OnOk result (IsFilled (held numbers.now) most tensors.old tensors.new) }
     ensures told { Tells result (entry_refusal (held numbers.now) tensors.old.dim most) }
 {
-    for i in 0..tensors.dim() {
-        fill_plane(tensors, numbers, most, i)?;
+    tensors.soundness_fact();
+    let dim = tensors.dim();
+    for i in 0..dim {
+        for j in 0..dim {
+            for k in 0..dim {
+                tensors.soundness_fact();
+                fill_b(tensors, numbers, most, i, j, k)?;
+                fill_c(tensors, numbers, most, i, j, k)?;
+            }
+        }
     }
     Ok(())
 }
 
-/// Puts the entries of D: the corner's value at 0, and 1/8 at 1 where 1 is an index.
-pub(crate) fn fill_d(tensors: &mut Tensors, corner: Frac) -> Result<(), NoMemory>
-    requires shape { tensors.old.shape ≡ curve_shape }
+/// Puts the entry of D at one index.
+fn put_d(tensors: &mut Tensors, i: u8, value: Frac) -> Result<(), NoMemory>
+    requires below { i < tensors.old.dim }
+    requires fits { FitsD tensors.old.shape i value }
+    requires free { is_given tensors.old.d i ≡ false }
+    ensures { OnOk result (tensors.new ≡ with_d tensors.old i value) }
+{
+    unless_wanting(tensors.put_d(i, value))
+}
+
+/// Puts the entries of D: the first at 0, and the second at 1 where 1 is an index. The shape has room for each that isn't 0.
+pub fn fill_d(tensors: &mut Tensors, first: Frac, second: Frac) -> Result<(), NoMemory>
+    requires first { FitsD tensors.old.shape 0 first }
+    requires second { FitsD tensors.old.shape 1 second }
     requires before { tensors.old.d ≡ [] }
-    ensures filled { OnOk result (FillsD corner tensors.new) }
+    ensures filled { OnOk result (FillsD first second tensors.new) }
     ensures others { OnOk result (tensors.new ≡ record tensors.old { d = tensors.new.d }) }
 {
     tensors.soundness_fact();
-    unless_wanting(tensors.put_d(0, corner))?;
+    put_d(tensors, 0, first)?;
     if tensors.dim() == 1 {
         return Ok(());
     }
-    tensors.soundness_fact();
-    unless_wanting(tensors.put_d(1, eighth()))
+    put_d(tensors, 1, second)
 }

@@ -12,7 +12,7 @@ ghost use Rattle.sparse_tensor.specs.Grades.{IsSmallLaw, IsAtMost, keeps_a};
 ghost use Rattle.airy_math.specs.Tensors.{SameEntries};
 
 use crate::filling::{fill, fill_d};
-use crate::numbers::{numbers_up_to, sequence_of};
+use crate::numbers::{number_at, numbers_up_to, sequence_of};
 use frac128::Frac;
 use sparse_tensor::{Law, NoMemory, PutErr, Shape, Tensors};
 use std::alloc::{AllocError, Global};
@@ -96,10 +96,10 @@ pub fn tensors_of(
     let shape = Shape::AtMost(Law { per_g: 3, per_n: 1 });
     let mut tensors = with_corner(alloc, dim, shape, letter)?;
     fill(&mut tensors, numbers, most)?;
-    let Some(corner) = numbers[1].mul(eighth()) else {
+    let Some(corner) = number_at(numbers, 1).mul(eighth()) else {
         return Err(CurveErr::Over { k: 1 });
     };
-    fill_d(&mut tensors, corner)?;
+    fill_d(&mut tensors, corner, eighth())?;
     Ok(tensors)
 }
 
@@ -147,7 +147,7 @@ pub fn top_of_curve(bound: u8) -> u8
 }
 
 /// Those of a curve that a table up to the bound needs: all indices and all exponents up to its top. The bound is from 1 to 24.
-/// What they leave out of the whole curve stands, up to the bound, only in terms with a factor that is 0 (`curve_is_cut`). They
+/// What they leave out of the whole curve stands, up to the bound, only in terms with a factor that is 0 (`relation_law::curve_is_cut`). They
 /// meet the five relations in all places below N, for every N with 2N + 1 at most the top.
 pub fn curve(alloc: Global, bound: u8, u: &[Frac]) -> Result<Tensors, CurveErr>
     requires some { 0 < bound }

@@ -6,6 +6,14 @@ ghost use Rattle.airy_curve.specs.Steps.{first_answer, number_refusal};
 
 use frac128::Frac;
 
+/// The number at a place of an array.
+pub(crate) fn number_at(numbers: &[Frac; 73], k: u8) -> Frac
+    requires { k ≤ 72 }
+    ensures { result ≡ held numbers.now k }
+{
+    numbers[k as usize]
+}
+
 /// `c_k` of the numbers `u_1` to `u_k` and `c_0` to `c_(k-1)`, for a k from 1 to 72: the negative of the sum that begins at 0, and
 /// to which the products of `u_l` and `c_(k-l)` are added for l from 1 to k. None where a step leaves 128 bits.
 pub fn next_number(u: &[Frac; 73], c: &[Frac; 73], k: u8) -> Option<Frac>
@@ -15,7 +23,7 @@ pub fn next_number(u: &[Frac; 73], c: &[Frac; 73], k: u8) -> Option<Frac>
 {
     let mut sum = Frac::whole(0);
     for l in 1..k + 1 {
-        let product = u[l as usize].mul(c[(k - l) as usize])?;
+        let product = number_at(u, l).mul(number_at(c, k - l))?;
         sum = sum.add(product)?;
     }
     Some(sum.neg())

@@ -1,8 +1,8 @@
 -- What is answered of a plan's table of outcomes, and what it says.
-use Prim.Native.Nat.{ℕ, ◌<◌}
+use Prim.Native.Nat.{ℕ}
 use mathlib.Core.Path.{◌≡◌, refl, sym, ap, subst, ◌∙◌}
 use mathlib.Core.Bool.{true}
-use mathlib.Core.List.{List, map}
+use mathlib.Core.List.{List}
 use native.Mathlib.Omega.{arith}
 use lib.ListN.{length, get_or}
 use Rattle.std.specs.Prelude.{Option, Some, None}

@@ -4,34 +4,26 @@ use mathlib.Core.Path.{◌≡◌, refl, sym, ap, ◌∙◌}
 use mathlib.Core.Bool.{cond}
 use mathlib.Core.List.{List, [], ◌∷◌}
 use lib.ListN.{get_or}
-use Rattle.std.specs.Prelude.{Option, Some, None}
-use Rattle.airy_math.specs.Rational.{ℚ}
 use Rattle.amp_terms.specs.declared.Outcome.{Outcome}
-use Rattle.amp_terms.specs.declared.Outcome.TheVariants.{Value, Over}
-use Rattle.amp_terms.specs.Outcomes.{outcomes, has_value, smaller, least_blocked, outcome_from, value_in}
+use Rattle.amp_terms.specs.declared.Outcome.TheVariants.{Over}
+use Rattle.amp_terms.specs.Outcomes.{outcomes, has_value, smaller, least_blocked, value_in}
 use Rattle.amp_terms.specs.Pivots.{pivot_outcome, listed, least_without, number_at}
 use Rattle.series_law.specs.Check.{Verdict, Solution, NotValue, Overflow, Orders, check}
 use Rattle.series_law.proofs.CheckLaw.{check_law}
 use Rattle.airy_exists.specs.Existence.{rec_series, FindsNoOrders, NoOrdersLaw, OneValueLaw}
 use Rattle.airy_exists.proofs.ExistenceLaw.{existence, orders}
+use Rattle.series_law.proofs.OutcomeLaw.{outcome_value}
 
 same_blocked : (done : List Outcome) (rs : List ℕ) → least_without (listed done) rs ≡ least_blocked done rs
 unfolding least_without least_blocked listed
 same_blocked done [] = refl
 same_blocked done (r ∷ rs) = ap (λ b. cond (has_value (get_or done r Over)) b (smaller r b)) (same_blocked done rs)
 
--- an outcome is a Value where nothing blocks it and its sum is obtained
-value_from : (o : Option ℕ) (s : Option ℚ) (v : ℚ) → outcome_from o s ≡ Value v → (o ≡ None) × (s ≡ Some v)
-unfolding outcome_from
-value_from (Some r) s v e = cc
-value_from None None v e = cc
-value_from None (Some w) v e = (refl, cc)
-
 pub one_value : OneValueLaw
 unfolding pivot_outcome listed number_at value_in
 one_value T sy gr cl X key i j v w p h k a b =
-    let x = value_from _ _ v a in
-    let y = value_from _ _ w b in
+    let x = outcome_value _ _ v a in
+    let y = outcome_value _ _ w b in
     (orders T sy gr cl X).obtained key i v p h (sym (same_blocked (outcomes T X) _) ∙ x.0) x.1
     ∙ sym ((orders T sy gr cl X).obtained key j w p k (sym (same_blocked (outcomes T X) _) ∙ y.0) y.1)
 

@@ -6,7 +6,7 @@ use Rattle.std.proofs.Math.Nat.{add-mul}
 use Rattle.std.proofs.lemmas.Bool.{false≢true}
 use Rattle.airy_math.specs.Keys.{times, more, same_list}
 use Rattle.airy_math.proofs.SumLemmas.{Each, Each-each, Each-map, Each-below, Each-weaken}
-use Rattle.airy_math.proofs.MeasureLemmas.{measure, measure-length, measure-total}
+use Rattle.airy_math.proofs.MeasureLemmas.{measure, measure-length, measure-total, measure-replicate}
 use Rattle.airy_index.specs.SplitLaw.{IsSplitOf, SplitsLaw, times_part}
 use Rattle.airy_index.proofs.ChoiceLemmas.{splits-all, below_other}
 use Rattle.airy_index.proofs.SortedLemmas.{sorted-weaken}
@@ -75,11 +75,6 @@ weighted-runs : (w : ℕ → ℕ) (xs : List ℕ) → weighted w (runs xs) ≡ m
 unfolding weighted runs measure
 weighted-runs w [] = refl
 weighted-runs w (x ∷ xs) = omega (arith, ap (weighted w) (into_runs-merged x (runs xs)), weighted-merged w x 1 (runs xs), weighted-runs w xs)
-
-measure-replicate : (w : ℕ → ℕ) (x v : ℕ) (xs : List ℕ) → measure w (replicate x v ++ xs) ≡ x * w v + measure w xs
-unfolding measure
-measure-replicate w zero v xs = omega arith
-measure-replicate w (suc x) v xs = omega (arith, measure-replicate w x v xs)
 
 measure-times : (a : ℕ) (xs : List ℕ) → measure (λ b. more (nat_eq a b) 0) xs ≡ times a xs
 unfolding measure times
@@ -163,7 +158,7 @@ times-below a k m (y ∷ ys) s h =
     let other : nat_eq a y ≡ false = ne_eqb a y (λ e. omega (arith, s.0)) in
     ap (λ t. more t (times a ys)) other ∙ times-below a y m ys s.2 (omega (arith, s.0))
 
-times-first : (y : ℕ) (ys : List ℕ) → 0 < times y (y ∷ ys)
+pub times-first : (y : ℕ) (ys : List ℕ) → 0 < times y (y ∷ ys)
 unfolding times
 times-first y ys = rw (eq-eqb y y refl) (omega arith)
 

@@ -21,5 +21,6 @@ times_part ys (s ∷ ss) = more (same_list s.part ys) (times_part ys ss)
 -- The numbers of ways of all splits of n items add up to 2^n.
 pub record SplitsLaw : Type 0 where
   pub each : (xs : List ℕ) → IsSortedFrom 0 256 xs → AllByRecursion (IsSplitOf xs) (splits xs)
-  pub once : (xs ys : List ℕ) → IsSortedFrom 0 256 xs → IsSortedFrom 0 256 ys → ((a : ℕ) → times a ys ≤ times a xs) → times_part ys (splits xs) ≡ 1
+  pub once : (xs ys : List ℕ) → IsSortedFrom 0 256 xs → IsSortedFrom 0 256 ys → ((a : ℕ) → times a ys ≤ times a xs)
+      → times_part ys (splits xs) ≡ 1
   pub ways : (xs : List ℕ) → total (map (λ s. s.ways) (splits xs)) ≡ 2 ^ length xs

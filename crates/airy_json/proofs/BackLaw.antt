@@ -1,15 +1,8 @@
 -- The document of a plan's table is read as its kind, its bound and its values.
 use Rattle.std.proofs.Common.{◌≡◌, ℕ, suc, ◌^◌, ◌<◌, ◌≤◌, ◌&&◌, Bool, true, false, List, [], ◌∷◌, length, get_or, Some, None, refl, sym, ap, ◌∙◌, arith, IsUtf8, nat_lt, nat_le, le-ltb, leb-true, eq-eqb}
-use Rattle.std.proofs.lemmas.Str.{is_utf8-from_IsUtf8}
-use Rattle.std.proofs.lemmas.Bool.{and_parts}
-use Rattle.serde_json.specs.Read.{read}
-use Rattle.airy_json.proofs.Common.{ℚ, IsInRange, Key, Tensors, planned, IsPlanned, key_at, BelowDimLaw, Wk, Bgw, Wp, looked_up, Planning, tensors_of, keys_of, limit, limit_of, Within, SameLimitsLaw, indices_data, cell_data, cells_data, document_data, document_text, Kind, named, text, kind_tensors, making_over, AreOfKind, IsPlanOf, count, whole, form_of, is_whole, are_indices, cell_value, first_bad, with_value, cell_values, Gives, cells_answer, plan_answer, made_answer, bound_answer, form_answer, data_answer, json_of, answer_of}
-use Rattle.airy_math.specs.Keys.{euler, IsSortedFrom}
+use Rattle.airy_json.proofs.Common.{ℚ, IsInRange, Key, Tensors, planned, IsPlanned, key_at, BelowDimLaw, Wk, Bgw, Wp, looked_up, Planning, tensors_of, keys_of, limit, limit_of, Within, SameLimitsLaw, indices_data, cell_data, cells_data, document_data, document_text, Kind, named, text, kind_tensors, making_over, AreOfKind, IsPlanOf, count, whole, form_of, is_whole, are_indices, cell_value, first_bad, with_value, cell_values, Gives, cells_answer, plan_answer, made_answer, bound_answer, form_answer, data_answer, json_of, answer_of, is_utf8-from_IsUtf8, and_parts, read, euler, IsSortedFrom, PassesBound, limit-bound, three, whole_at, array_at, string_at, form_with, are_indices_at, is_cell_of, kind_answer}
 use Rattle.airy_math.specs.Ranks.{ListsPlanned}
 use Rattle.tensor_text.proofs.BackValues.{value_back}
-use Rattle.amp_plan.specs.Limits.{PassesBound}
-use Rattle.amp_plan.proofs.LimitLemmas.{limit-bound}
-use Rattle.airy_json.specs.Reading.{three, whole_at, array_at, string_at, form_with, are_indices_at, is_cell_of, kind_answer}
 use Rattle.airy_json.specs.Written.{ReadsBack}
 use Rattle.airy_json.proofs.ReadLaw.{AreWords, IsWordKey, read-document}
 

@@ -1,12 +1,7 @@
 -- Cells that are read one after another.
 use Rattle.std.proofs.Common.{◌≡◌, ℕ, zero, suc, ◌+◌, ◌<◌, ◌≤◌, List, [], ◌∷◌, ◌++◌, length, drop, get_or, Option, Some, None, option_map, refl, sym, ap, ap₂, ◌∙◌, subst, arith, cond, is_some, append_assoc, append-nil}
-use Rattle.std.proofs.lemmas.List.{drop_more, drop_all}
-use Rattle.airy_json.proofs.Common.{ℚ, Key, no_key, Planning, keys_of, Kind, AreOfKind, IsPlanOf, cell_value, first_bad, cell_values, with_value, Gives, cells_answer, bound_answer, AreCells, JsonErr, ReadFault, TooLong, NotJson, Form, Bound, Make, Plan, Cell, NoMemory}
-use Rattle.serde_json.specs.Data.{Items, no_items, item}
-use Rattle.serde_json.specs.View.{view, items_view}
+use Rattle.airy_json.proofs.Common.{ℚ, Key, no_key, Planning, keys_of, Kind, AreOfKind, IsPlanOf, cell_value, first_bad, cell_values, with_value, Gives, cells_answer, bound_answer, AreCells, JsonErr, ReadFault, TooLong, NotJson, Form, Bound, Make, Plan, Cell, NoMemory, drop_more, drop_all, Items, no_items, item, view, items_view, IsGiven, Refuses, IsBadCell}
 use Rattle.serde_json.specs.declared.value.Value.{Value}
-use Rattle.airy_json.specs.Given.{IsGiven, Refuses}
-use Rattle.airy_json.specs.Steps.{IsBadCell}
 use Rattle.airy_json.specs.declared.refusals.JsonErr.TheVariants as json
 
 -- The cells before place p are those of the keys there, with these values.
@@ -112,13 +107,14 @@ values-length (key ∷ keys) (item d ds) e = by (cell_value key d) (first_bad ke
     by (Some v) None f e = ap suc (f refl)
 
 -- a plan whose cells are read
-pub given : (kind : Kind) (X : ℕ) (plan : Planning) (values : List ℚ) (ds : Items) → IsPlanOf kind X plan
+pub given : (kind : Kind) (X : ℕ) (plan : Planning) (values : List ℚ) (ds : Items) → 0 < X → IsPlanOf kind X plan
     → bound_answer kind X ds ≡ cells_answer kind X (cell_values (keys_of plan) ds) (first_bad (keys_of plan) ds) → AreCells (keys_of plan) ds values
     → IsGiven plan values (bound_answer kind X ds)
 unfolding cells_answer
-given kind X plan values ds of_kind answer cells = record {
+given kind X plan values ds some of_kind answer cells = record {
   kind = kind;
   gives = answer ∙ ap₂ (cells_answer kind X) (sym cells.values_are) cells.good ∙ ap (λ Y. Gives kind Y values) (sym of_kind.bound_is);
   plan_of = record { bound_is = refl; tensors_are = subst (λ Y. AreOfKind kind Y plan.tensors) (sym of_kind.bound_is) of_kind.tensors_are };
+  some = subst (λ Y. 0 < Y) (sym of_kind.bound_is) some;
   one_each = ap length cells.values_are ∙ values-length (keys_of plan) ds cells.good;
 }

@@ -1,16 +1,7 @@
 -- What reading the bytes of a document gives.
-use Rattle.std.proofs.Common.{◌≡◌, ℕ, ◌≤◌, nat_lt, Bool, true, false, cond, List, length, Result, Ok, Err, Some, None, IsUtf8, refl, ap, ◌∙◌, arith}
-use Rattle.std.proofs.lemmas.Bool.Decides.{nat_tests}
-use Rattle.std.proofs.lemmas.Str.{IsUtf8-from_is_utf8, is_utf8-from_IsUtf8}
+use Rattle.std.proofs.Common.{◌≡◌, ℕ, ◌≤◌, nat_lt, Bool, true, false, cond, List, length, Some, None, IsUtf8, refl, ap, ◌∙◌, arith}
+use Rattle.airy_json.proofs.Common.{form_of, form_answer, data_answer, json_of, answer_of, nat_tests, IsUtf8-from_is_utf8, is_utf8-from_IsUtf8, Data, read, NoJson, Long}
 use Rattle.std.specs.Str.{is_utf8}
-use Rattle.std.specs.declared.option.Option.{Option}
-use Rattle.serde_json.specs.Data.{Data}
-use Rattle.serde_json.specs.Read.{read}
-use Rattle.airy_json.proofs.Common.{form_of, form_answer, data_answer, json_of, answer_of, JsonErr, ReadFault, TooLong, NotJson, Form, Bound, Make, Plan, Cell, NoMemory}
-use Rattle.airy_json.specs.Reading.{NoJson, Long}
-use Rattle.airy_json.specs.Given.{IsWhole, Tells}
-use Rattle.airy_json.specs.declared.reading.Given.{Given}
-use Rattle.airy_json.specs.declared.refusals.JsonErr.TheVariants as json
 
 not_long : (n : ℕ) → n ≤ 16777216 → nat_lt 16777216 n ≡ false
 not_long n h = grind (arith, nat_tests)

@@ -1,11 +1,8 @@
 -- The members of an object and the items of an array.
 use Rattle.std.proofs.Common.{◌≡◌, ℕ, suc, ◌+◌, ◌<◌, ◌≤◌, Bool, true, false, ◌&&◌, List, [], ◌∷◌, length, map, drop, get_or, refl, sym, ap, ap₂, ◌∙◌, String}
-use Rattle.std.proofs.lemmas.List.{length-map, drop_more, drop_all}
+use Rattle.airy_json.proofs.Common.{count, whole, is_whole, are_indices, length-map, drop_more, drop_all, Data, view, items_view, members_of, members_view}
 use Rattle.std.specs.declared.alloc.Global.{Global}
-use Rattle.serde_json.specs.Data.{Data}
-use Rattle.serde_json.specs.View.{view, items_view, members_of, members_view}
 use Rattle.serde_json.specs.declared.value.Value.{Value}
-use Rattle.airy_json.proofs.Common.{count, whole, is_whole, are_indices}
 
 count_of : (ms : List (String Global × Data)) → count (members_of ms) ≡ length ms
 unfolding count

@@ -1,15 +1,12 @@
 -- Given values as outcomes of ranks.
-use Rattle.std.proofs.Common.{ℕ, zero, suc, ◌<◌, ◌≡◌, refl, sym, ap, ap₂, ◌∙◌, Bool, true, false, cond, List, [], ◌∷◌, map, arith, length, get_or, Option, Some, None, slice_index_or}
-use Rattle.airy_json.proofs.Common.{ℚ, 0ℚ, Key, remove, times, Tensors, planned, IsPlanned, place_of, terms, obtained_pivot_sum, Outcome, Value, Over, has_value, outcome_from, number_at, pivot_outcome, listed, value_of, VerifyEnd, as_table, given_to, said}
+use Rattle.std.proofs.Common.{ℕ, zero, suc, ◌<◌, ◌≡◌, refl, sym, ap, ap₂, ◌∙◌, true, List, [], ◌∷◌, arith, length, get_or, Some, None}
+use Rattle.airy_json.proofs.Common.{ℚ, 0ℚ, Key, remove, Tensors, planned, IsPlanned, place_of, terms, obtained_pivot_sum, Value, Over, has_value, outcome_from, number_at, pivot_outcome, listed, VerifyEnd, as_table, given_to, said, place-has, outcome_shown}
 use Rattle.airy_math.proofs.PlanLemmas.{planned_has}
-use Rattle.airy_math.proofs.RankLaw.{place-has}
 use Rattle.amp_plan.specs.Ranked.{AreAllowed}
-use Rattle.amp_terms.specs.Outcomes.{smaller, value_or_zero, value_in, ranks_named}
-use Rattle.amp_terms.specs.Pivots.{least_without}
+use Rattle.amp_terms.specs.Outcomes.{value_or_zero, value_in, ranks_named}
 use Rattle.constraint_check.specs.declared.pivots.Failure.{Failure}
 use Rattle.airy_json.specs.declared.verify_ends.VerifyEnd.TheVariants as end
 use Rattle.airy_json.specs.Verifying.{Names}
-use Rattle.series_law.proofs.PivotsLaw.{outcome_shown}
 
 pub length-table : (vs : List ℚ) → length (as_table vs) ≡ length vs
 unfolding as_table

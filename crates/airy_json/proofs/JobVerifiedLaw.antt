@@ -1,17 +1,10 @@
 -- What verifying the values of a job's keys says of the job's solutions.
-use Rattle.std.proofs.Common.{ℕ, suc, ◌+◌, ◌-◌, ◌<◌, ◌≡◌, refl, sym, ap, subst, ◌∙◌, Bool, true, false, ◌&&◌, List, arith, leb, eqb, length}
-use Rattle.airy_json.proofs.Common.{ℚ, 0ℚ, 1ℚ, Key, planned, Tensors, IsSymmetric, IsGraded, letter_of, power, power_none, series_with, as_table, verified, Says}
-use Rattle.airy_math.specs.Sums.{when}
-use Rattle.airy_math.specs.Families.{top_wk, top_bgw, wp_cut, wp_number}
-use Rattle.airy_math.specs.Jobs.{Structure, Wk, Bgw, Wp, Bulk, Text, Lettered, IsSolutionOf, IsSound, letter_value, planned_tensors, tensors_at}
-use Rattle.airy_math.proofs.FamilyLaw.{wk_graded, wk_symmetric, bgw_graded, bgw_symmetric, wp_cut_graded}
+use Rattle.std.proofs.Common.{ℕ, ◌≡◌, subst}
+use Rattle.airy_json.proofs.Common.{ℚ, 0ℚ, Key, Tensors, letter_of, power, power_none, series_with, as_table, verified, Says, power_not_zero, Shown, job_solution, job_uniqueness, JobVerifiedLaw, job_series}
+use Rattle.airy_math.specs.Jobs.{IsSolutionOf, letter_value, planned_tensors, tensors_at}
 use Rattle.airy_math.proofs.FamilyPlans.{le_self}
 use Rattle.airy_math.proofs.JobCutLaw.{ready}
-use Rattle.airy_math.proofs.PowerLemmas.{power_not_zero}
-use Rattle.series_law.specs.Pivots.{Shown}
-use Rattle.series_law.proofs.JobLaw.{job_solution, job_uniqueness}
-use Rattle.airy_json.specs.declared.verify_ends.VerifyEnd.TheVariants.{Solution, Differs}
-use Rattle.airy_json.specs.Verified.{AreNoSolution, JobVerifiedLaw, job_series}
+use Rattle.airy_json.specs.declared.verify_ends.VerifyEnd.TheVariants.{Differs}
 use Rattle.airy_json.proofs.VerifiedLaw.{verified_law, none_greater}
 use Rattle.series_law.proofs.JobCheckLaw.{ArePlanned, plan_sound}
 

@@ -1,12 +1,10 @@
 -- A canonical text is a kind: that of its tensors.
 use Rattle.std.proofs.Common.{◌≡◌, ℕ, List, ◌++◌, false, Some, refl, ap, ◌∙◌, codes}
+use Rattle.airy_json.proofs.Common.{Entries, canonical_text, text, dim_text, header_text, shape_text, first_text, entries_text, kind_of, read_kind}
 use Rattle.std.specs.Str.{bytes_eq}
 use Rattle.airy_math.specs.declared.Shape.{Shape}
 use Rattle.airy_math.specs.declared.Shape.TheVariants.{All, Exact, AtMost}
-use Rattle.airy_json.proofs.Common.{Entries, canonical_text, text}
 use Rattle.tensor_text.specs.Grammar.{Read, reading_of}
-use Rattle.tensor_text.specs.Canonical.{dim_text, header_text, shape_text, first_text, entries_text}
-use Rattle.airy_json.specs.Reading.{kind_of, read_kind}
 
 -- no name begins as a header does
 record IsNoName (s : List ℕ) : Type 0 where

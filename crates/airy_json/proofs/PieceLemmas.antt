@@ -1,16 +1,7 @@
 -- The texts of cells, of arrays and of the document, part by part.
 use Rattle.std.proofs.Common.{◌≡◌, ℕ, zero, suc, ◌+◌, ◌<◌, ◌≤◌, false, true, List, [], ◌∷◌, ◌++◌, length, drop, get_or, Option, Some, None, Result, Ok, Err, OnOk, ◌⊎◌, inl, inr, refl, sym, ap, ap₂, ◌∙◌, subst, arith, append_assoc, decimal, codes, nat_lt, lt-ltb}
-use Rattle.std.proofs.lemmas.List.{drop_more, drop_all}
-use Rattle.std.proofs.lemmas.Bool.{cases_lt}
-use Rattle.json.specs.Print.{escape_byte, escape, quoted}
-use Rattle.json.proofs.Printed.Strings.{escape_byte_plain}
+use Rattle.airy_json.proofs.Common.{ℚ, IsInRange, Key, no_key, key_at, fraction_text, Outcome, Value, Over, value_of, indices_data, cell_data, cells_data, document_data, document_text, value_in, values_in, drop_more, drop_all, cases_lt, escape_byte, escape, quoted, escape_byte_plain, compact_text, items_text, comma_if, ArePlain, Blocked, first_without, value_of_cell, value_at, never_next}
 use Rattle.serde_json.specs.Data.{Data, number, unsigned, Items, no_items, item}
-use Rattle.serde_json.specs.Written.{compact_text, items_text, comma_if}
-use Rattle.airy_json.proofs.Common.{ℚ, IsInRange, Key, no_key, key_at, fraction_text, Outcome, Value, Over, value_of, indices_data, cell_data, cells_data, document_data, document_text, value_in, values_in}
-use Rattle.tensor_text.proofs.PlainLemmas.{ArePlain}
-use Rattle.amp_terms.specs.declared.Outcome.TheVariants.{Blocked}
-use Rattle.amp_terms.specs.Tables.{first_without, next_rank, value_of_cell, value_at}
-use Rattle.series_law.proofs.TableRanks.{never_next}
 
 -- ---- a cell
 

@@ -1,14 +1,10 @@
 -- The limits of a kind's plan.
 use Rattle.std.proofs.Common.{◌≡◌, ◌⊎◌, inl, inr, ℕ, ◌<◌, ◌≤◌, nat_le, ◌&&◌, true, false, Some, None, refl, sym, ap, ◌∙◌, arith}
-use Rattle.std.proofs.lemmas.Bool.Decides.{nat_tests}
-use Rattle.airy_json.proofs.Common.{Wk, Bgw, Wp, Entries, looked_up, BelowDimLaw, planned, Planning, tensors_of, keys_of, limit, limit_of, Within, SameLimitsLaw, Kind, named, text, AreOfKind, kind_tensors, making_over, made_answer, plan_answer, bound_answer, cells_answer, cell_values, first_bad, Unmade}
+use Rattle.airy_json.proofs.Common.{Wk, Bgw, Wp, Entries, looked_up, BelowDimLaw, planned, Planning, tensors_of, keys_of, limit, limit_of, Within, SameLimitsLaw, Kind, named, text, AreOfKind, kind_tensors, making_over, made_answer, plan_answer, bound_answer, cells_answer, cell_values, first_bad, Unmade, nat_tests, limit-memory, Items, BadBound, Passes}
 use Rattle.amp_plan.specs.Limits.{Tells}
 use Rattle.amp_plan.specs.declared.cause.PlanCause.{PlanCause}
 use Rattle.amp_plan.specs.declared.cause.PlanCause.TheVariants.{Bound, Cells, Edges, NoMemory}
-use Rattle.amp_plan.proofs.LimitLemmas.{limit-memory}
-use Rattle.serde_json.specs.Data.{Items}
-use Rattle.airy_json.specs.Reading.{BadBound}
-use Rattle.airy_json.specs.Given.{Passes}
+use Rattle.amp_plan.proofs.LimitLemmas.{range_fact}
 
 -- the plan that is made of stored tensors
 abbrev stored_plan : Entries → ℕ → Planning
@@ -28,9 +24,6 @@ same_keys law (named Bgw) X t stands = (law (looked_up t) (kind_tensors (named B
 same_keys law (named Wp) X t stands = (law (looked_up t) (kind_tensors (named Wp) X) stands.entries).plan X
 same_keys law (text u) X t same = ap (λ e. planned (looked_up e) X) same
 
-in_range : (X : ℕ) → 0 < X → X ≤ 24 → (nat_le 1 X && nat_le X 24) ≡ true
-in_range X some most = grind (arith, nat_tests)
-
 out_of_range : (X : ℕ) → (X ≡ 0) ⊎ (24 < X) → (nat_le 1 X && nat_le X 24) ≡ false
 out_of_range X (inl e) = rw e refl
 out_of_range X (inr h) = grind (arith, nat_tests)
@@ -38,7 +31,7 @@ out_of_range X (inr h) = grind (arith, nat_tests)
 module _ (kind : Kind) (X : ℕ) (ds : Items) (some : 0 < X) (most : X ≤ 24) where
   bound-ok : bound_answer kind X ds ≡ made_answer kind X ds (making_over kind X)
   unfolding bound_answer
-  bound-ok = rw (in_range X some most) refl
+  bound-ok = rw (range_fact X some most) refl
 
   -- a number of Weil and Petersson isn't obtained
   pub unmade : (k : ℕ) → making_over kind X ≡ Some k → bound_answer kind X ds ≡ Unmade k

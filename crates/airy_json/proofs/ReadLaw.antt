@@ -1,5 +1,6 @@
 -- The text of a document is read as the document.
 use Rattle.std.proofs.Common.{◌≡◌, ℕ, suc, ◌^◌, ◌<◌, ◌≤◌, List, [], ◌∷◌, ◌++◌, length, Option, Some, option_and_then, refl, sym, ap, ◌∙◌, arith, append-nil, codes}
+use Rattle.airy_json.proofs.Common.{ℚ, Key, key_at, indices_data, cell_data, cells_data, document_data, document_text, Data, Items, of_json, of_items, read, max_depth, outline, items_outline, compact_text}
 use Rattle.std.specs.List.{AllByRecursion}
 use Rattle.json.specs.Json as json
 use Rattle.json.specs.Token.{Token}
@@ -7,12 +8,8 @@ use Rattle.json.specs.Tree as tree
 use Rattle.json.specs.Tree.{json_tokens, HasNumbers, ItemsHaveNumbers}
 use Rattle.json.proofs.Printed.Decimals.{IsNumber-decimal}
 use Rattle.json.proofs.Printed.Trees.{value-json_tokens, ArePrintable-json_tokens}
-use Rattle.serde_json.specs.Data.{Data, Items}
-use Rattle.serde_json.specs.Read.{of_json, of_items, read, max_depth}
-use Rattle.serde_json.specs.Written.{outline, items_outline, compact_text}
 use Rattle.serde_json.proofs.Numbers.{number_of-decimal}
 use Rattle.serde_json.proofs.Texts.{print-outline}
-use Rattle.airy_json.proofs.Common.{ℚ, Key, key_at, indices_data, cell_data, cells_data, document_data, document_text}
 use Rattle.airy_json.proofs.LineLaw.{tokens-line}
 
 -- the JSON of these data is read as the data, and nests no deeper than n

@@ -1,10 +1,9 @@
 -- Given values of tensors with the same entries below dim have one end.
 use Rattle.std.proofs.Common.{ap, ap₂}
+use Rattle.airy_json.proofs.Common.{every, as_table, given_to, said, verified, SameVerifiedLaw}
 use Rattle.airy_math.proofs.BelowDimLaw.{below_dim}
 use Rattle.amp_terms.specs.Outcomes.{value_in}
-use Rattle.airy_json.proofs.Common.{every, as_table, given_to, said, verified}
 use Rattle.series_law.proofs.SameTablesLaw.{failing_same}
-use Rattle.airy_json.specs.Verified.{SameVerifiedLaw}
 
 pub same_verified : SameVerifiedLaw
 unfolding verified given_to

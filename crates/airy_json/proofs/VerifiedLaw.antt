@@ -1,46 +1,35 @@
 -- Given values that pass every pivot are a solution; and where a sum is another number, their series is none.
-use Rattle.std.proofs.Common.{◌↔◌, Option, append-nil, ℕ, zero, suc, ◌+◌, ◌<◌, ◌≤◌, ◌≡◌, refl, sym, ap, ap₂, subst, ◌∙◌, [], List, ◌∷◌, ◌++◌, map, ◌⊎◌, inl, inr, arith, pos, length, get_or, length-append, Some, None}
+use Rattle.std.proofs.Common.{◌↔◌, Option, append-nil, ℕ, zero, suc, ◌<◌, ◌≤◌, ◌≡◌, refl, sym, ap, subst, ◌∙◌, [], List, ◌∷◌, ◌++◌, ◌⊎◌, inl, inr, arith, pos, length, get_or, length-append, Some, None}
+use Rattle.airy_json.proofs.Common.{ℚ, 0ℚ, 1ℚ, Key, times, remove, Tensors, IsSymmetric, IsGraded, planned, IsPlanned, place_of, key_at, no_key, terms, obtained_pivot_sum, letter_of, power, Outcome, Value, Over, has_value, outcome_from, listed, series_with, every, VerifyEnd, as_table, given_to, said, verified, head_or, key_of, indices, exponents, needs, pivot_sum, StandsIn, plan_law, ranks_in_order, times_same, AllPivots, converse, pivot_weighed, one_some, value_only, IsFirstFailure, AreSolution, VerifiedLaw, values_series, without_letter}
 use Rattle.std.proofs.Math.ListN.{get_or-append}
 use Rattle.std.proofs.Math.Seq.{get_or-append_seam}
-use Rattle.airy_json.proofs.Common.{ℚ, 0ℚ, 1ℚ, Key, times, remove, Tensors, IsSymmetric, IsGraded, planned, IsPlanned, place_of, key_at, no_key, terms, obtained_pivot_sum, letter_of, power, power_none, Outcome, Value, Over, has_value, outcome_from, listed, pivot_outcome, series_with, every, VerifyEnd, as_table, given_to, said, verified, Says}
 use Rattle.airy_math.specs.Rational.{◌*ℚ◌, ◌/ℚ◌, whole}
 use Rattle.airy_math.specs.RationalLaws.{0ℚ-*ℚ, 1ℚ_idl, *ℚ_comm, *ℚ_assoc, inverse_lem}
-use Rattle.airy_math.specs.Keys.{head_or, key_of, indices, indices_from, exponents}
-use Rattle.airy_math.specs.Terms.{needs, pivot_sum, StandsIn}
-use Rattle.airy_math.specs.Series.{Series}
-use Rattle.airy_math.specs.Solutions.{Solves, amplitude, factorials}
+use Rattle.airy_math.specs.Solutions.{Solves, factorials}
 use Rattle.airy_math.specs.Cuts.{IsCut, outer, if_none}
 use Rattle.airy_math.proofs.SumLemmas.{*ℚ-0ℚ}
 use Rattle.airy_math.proofs.KeyLemmas.{Ascending, AllBelow, below_by}
 use Rattle.airy_math.proofs.ConstraintLemmas.{factorials_pos}
 use Rattle.airy_math.proofs.SplitLemmas.{scaled}
-use Rattle.airy_math.proofs.SolutionLaw.{amp, amplitude_law, indices_again}
+use Rattle.airy_math.proofs.SolutionLaw.{amp, indices_again}
 use Rattle.airy_math.proofs.PlannedLaw.{head_stands, ascending, small}
-use Rattle.airy_math.proofs.RankLaw.{plan_law, ranks_in_order}
-use Rattle.airy_math.proofs.CutLaw.{weight_of, Known, pivot_cut, stands_below}
-use Rattle.airy_math.proofs.ExactLaw.{outer-none, self_cut, power-one, if_none_zero}
+use Rattle.airy_math.proofs.CutLaw.{weight_of, Known}
+use Rattle.airy_math.proofs.ExactLaw.{outer-none, self_cut}
 use Rattle.airy_math.proofs.ObtainedLaw.{pivot_exact}
-use Rattle.airy_math.proofs.PowerLemmas.{times_same}
 use Rattle.amp_terms.specs.Outcomes.{value_in, outcome_of, outcomes, outcomes_after}
 use Rattle.amp_terms.proofs.FillingLemmas.{outcome_is}
 use Rattle.amp_terms.proofs.NamedLemmas.{allowed_places}
 use Rattle.amp_terms.proofs.OutcomeLemmas.{pivot-same}
-use Rattle.series_law.specs.Uniqueness.{series_of}
-use Rattle.series_law.specs.Pivots.{AllPivots}
 use Rattle.series_law.specs.Check.{check}
 use Rattle.series_law.specs.Check as verdict
 use Rattle.series_law.specs.First.{HaveValues, IsFirst}
 use Rattle.series_law.specs.Scans.{Failing, failing_key, Agrees, IsLooked, IsFirstFailing}
 use Rattle.series_law.proofs.ScansLaw.{finds_first}
 use Rattle.series_law.proofs.FirstLaw.{first_finding}
-use Rattle.series_law.proofs.PivotsLaw.{converse, pivot_weighed, one_some}
-use Rattle.series_law.proofs.TableRanks.{value_only}
 use Rattle.series_law.proofs.UniquenessLaw.{uniqueness}
 use Rattle.airy_json.specs.declared.verify_ends.VerifyEnd.TheVariants as end
-use Rattle.airy_json.specs.Verified.{IsFirstFailure, AreSolution, VerifiedLaw, values_series}
-use Rattle.airy_json.proofs.GivenLemmas.{has_listed, length-table, value_listed, outcome_given, rank_within, given_is, given_listed}
+use Rattle.airy_json.proofs.GivenLemmas.{has_listed, length-table, value_listed, outcome_given, given_is, given_listed}
 use Rattle.airy_math.proofs.EachLemmas.{append_assoc}
-use Rattle.series_law.proofs.JobLaw.{one_times, without_letter}
 
 -- ---- what is found is the first failure, and there is exactly one
 

@@ -1,5 +1,5 @@
 -- What reading a document from a source promises.
-use Rattle.std.specs.Prelude.{◌≡◌, ℕ, ◌≤◌, List, length, Result, Ok, Err, IsErrOf}
+use Rattle.std.specs.Prelude.{◌≡◌, ℕ, ◌<◌, ◌≤◌, List, length, Result, Ok, Err, IsErrOf}
 use Rattle.std.specs.declared.option.Option.{Option}
 use Rattle.std.specs.Io.KnownBytes.{Consumes, IsAtEnd}
 use Rattle.airy_math.specs.Rational.{ℚ}
@@ -15,11 +15,13 @@ use Rattle.airy_json.specs.declared.reading.Given.{Given}
 
 -- ---- what an answer of the code says
 
--- The plan is that of the kind and the bound that are given, and the values are those that are given, one for each planned key.
+-- The plan is that of the kind and the bound that are given, which is above 0, and the values are those that are given, one for each planned
+-- key.
 pub record IsGiven (plan : Planning) (values : List ℚ) (answer : Answer) : Type 0 where
   pub kind : Kind
   pub gives : answer ≡ Gives kind plan.bound values
   pub plan_of : IsPlanOf kind plan.bound plan
+  pub some : 0 < plan.bound
   pub one_each : length values ≡ length (keys_of plan)
 
 -- the limit that a cause names; a plan is refused with no other cause

@@ -1,3 +1,4 @@
+-- For private functions and for proofs: no public contract rests on this file.
 -- What the steps of the reader answer.
 use Rattle.std.specs.Prelude.{◌≡◌, ℕ, List, Option, Some, None}
 use Rattle.airy_math.specs.Rational.{ℚ}

@@ -104,15 +104,6 @@ pub before-list : (a b : Key) → euler_of a ≡ euler_of b → a.g ≡ b.g → 
 unfolding before euler_of
 before-list a b e h l = step-same (euler_of a) (euler_of b) (within a b) e ∙ step-same a.g b.g (less_list a.idx b.idx) h ∙ l
 
--- a key before another has at most its Euler number
-pub before_euler : (a b : Key) → before a b ≡ true → (euler_of a < euler_of b) ⊎ (euler_of a ≡ euler_of b)
-unfolding before euler_of
-before_euler a b h = by (step_cases (euler_of a) (euler_of b) (within a b) h)
-  where
-    by : (euler_of a < euler_of b) ⊎ ((euler_of a ≡ euler_of b) × (within a b ≡ true)) → (euler_of a < euler_of b) ⊎ (euler_of a ≡ euler_of b)
-    by (inl l) = inl l
-    by (inr e) = inr e.0
-
 -- Of two keys at most one is before the other; so no key is before itself.
 pub before-back : (a b : Key) → before a b ≡ true → before b a ≡ false
 unfolding before euler_of
@@ -130,14 +121,14 @@ unfolding before euler_of
 before-trans a b c h k = step_trans (euler_of a) (euler_of b) (euler_of c) (within a b) (within b c) (within a c) h k (within-trans a b c)
 
 -- Of two different keys one is before the other.
-pub before-total : (a b : Key) → (a ≡ b) ⊎ ((before a b ≡ true) ⊎ (before b a ≡ true))
+pub before-total : (a b : Key) → (before a b ≡ true) ⊎ ((before b a ≡ true) ⊎ (a ≡ b))
 before-total a b = by (cases_order (euler_of a) (euler_of b)) (cases_order a.g b.g) (less_list-total a.idx b.idx)
   where
-    by : (euler_of a ≡ euler_of b) ⊎ ((euler_of a < euler_of b) ⊎ (euler_of b < euler_of a)) → (a.g ≡ b.g) ⊎ ((a.g < b.g) ⊎ (b.g < a.g)) → (a.idx ≡ b.idx) ⊎ ((less_list a.idx b.idx ≡ true) ⊎ (less_list b.idx a.idx ≡ true)) → (a ≡ b) ⊎ ((before a b ≡ true) ⊎ (before b a ≡ true))
-    by (inr (inl l)) g i = inr (inl (before-euler a b l))
-    by (inr (inr l)) g i = inr (inr (before-euler b a l))
-    by (inl e) (inr (inl l)) i = inr (inl (before-genus a b e l))
-    by (inl e) (inr (inr l)) i = inr (inr (before-genus b a (sym e) l))
-    by (inl e) (inl g) (inl i) = inl (λ t. record { g = g t; idx = i t })
-    by (inl e) (inl g) (inr (inl l)) = inr (inl (before-list a b e g l))
-    by (inl e) (inl g) (inr (inr l)) = inr (inr (before-list b a (sym e) (sym g) l))
+    by : (euler_of a ≡ euler_of b) ⊎ ((euler_of a < euler_of b) ⊎ (euler_of b < euler_of a)) → (a.g ≡ b.g) ⊎ ((a.g < b.g) ⊎ (b.g < a.g)) → (a.idx ≡ b.idx) ⊎ ((less_list a.idx b.idx ≡ true) ⊎ (less_list b.idx a.idx ≡ true)) → (before a b ≡ true) ⊎ ((before b a ≡ true) ⊎ (a ≡ b))
+    by (inr (inl l)) g i = inl (before-euler a b l)
+    by (inr (inr l)) g i = inr (inl (before-euler b a l))
+    by (inl e) (inr (inl l)) i = inl (before-genus a b e l)
+    by (inl e) (inr (inr l)) i = inr (inl (before-genus b a (sym e) l))
+    by (inl e) (inl g) (inl i) = inr (inr (λ t. record { g = g t; idx = i t }))
+    by (inl e) (inl g) (inr (inl l)) = inl (before-list a b e g l)
+    by (inl e) (inl g) (inr (inr l)) = inr (inl (before-list b a (sym e) (sym g) l))

@@ -44,7 +44,7 @@ same_back T T' is = record {
     back : (i : ℕ) → i < T'.dim → i < T.dim
     back i p = subst (λ m. i < m) (sym is.dim) p
 
-sum-below_cong : (f h : ℕ → ℚ) (m : ℕ) → ((a : ℕ) → a < m → f a ≡ h a) → sum_over (below m) f ≡ sum_over (below m) h
+pub sum-below_cong : (f h : ℕ → ℚ) (m : ℕ) → ((a : ℕ) → a < m → f a ≡ h a) → sum_over (below m) f ≡ sum_over (below m) h
 sum-below_cong f h m e = sum-cong_each f h (below m) (Each-below _ m e)
 
 module _ (T T' : Tensors) (is : SameEntries T T') where

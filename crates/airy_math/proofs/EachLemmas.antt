@@ -6,7 +6,7 @@ use native.Mathlib.Omega.{arith}
 use lib.ListN.{length, get_or}
 use Rattle.airy_math.specs.Sums.{each, count_from, keep}
 use Rattle.airy_math.proofs.SumLemmas.{Each}
-use mathlib.Core.Bool.{Bool, true, false}
+use mathlib.Core.Bool.{Bool, true, false, cond}
 use Rattle.std.proofs.Common.{take, drop}
 use Rattle.std.proofs.lemmas.List.{take-append-drop}
 
@@ -85,6 +85,31 @@ pub each-cong : {A B : Type 0} (f h : A → List B) (xs : List A) → ((x : A) �
 unfolding each
 each-cong f h [] e = refl
 each-cong f h (x ∷ xs) e = ap₂ ◌++◌ (e x) (each-cong f h xs e)
+
+pub each-map : {A B C : Type 0} (g : B → List C) (f : A → B) (xs : List A) → each (map f xs) g ≡ each xs (λ x. g (f x))
+unfolding each
+each-map g f [] = refl
+each-map g f (x ∷ xs) = ap (λ t. g (f x) ++ t) (each-map g f xs)
+
+pub each-each : {A B C : Type 0} (g : B → List C) (f : A → List B) (xs : List A) → each (each xs f) g ≡ each xs (λ x. each (f x) g)
+unfolding each
+each-each g f [] = refl
+each-each g f (x ∷ xs) = each-append (f x) (each xs f) g ∙ ap (λ t. each (f x) g ++ t) (each-each g f xs)
+
+pub each-none : {A B : Type 0} (f : A → List B) (xs : List A) → Each (λ x. f x ≡ []) xs → each xs f ≡ []
+unfolding each
+each-none f [] h = refl
+each-none f (x ∷ xs) h = ap₂ ◌++◌ h.0 (each-none f xs h.1)
+
+-- the elements that pass, one by one
+pub keep-singles : {A : Type 0} (p : A → Bool) (xs : List A) → keep p xs ≡ each xs (λ x. cond (p x) (x ∷ []) [])
+unfolding keep each
+keep-singles p [] = refl
+keep-singles p (x ∷ xs) = by (p x) (keep-singles p xs)
+  where
+    by : (t : Bool) → keep p xs ≡ each xs (λ x. cond (p x) (x ∷ []) []) → elim t [ true ↦ x ∷ keep p xs | false ↦ keep p xs ] ≡ cond t (x ∷ []) [] ++ each xs (λ x. cond (p x) (x ∷ []) [])
+    by true e = ap (λ t. x ∷ t) e
+    by false e = e
 
 pub map-cong_each : {A B : Type 0} (f h : A → B) (xs : List A) → Each (λ x. f x ≡ h x) xs → map f xs ≡ map h xs
 map-cong_each f h [] e = refl

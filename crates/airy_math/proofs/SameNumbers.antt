@@ -15,7 +15,7 @@ use Prim.Native.Nat.{ℕ}
 use Rattle.std.specs.Ordering.{int_eq}
 use Rattle.std.proofs.Common.{rules}
 
-same_z : (a b : ℤ) → eq_z a b ≡ true → a ≡ b
+pub same_z : (a b : ℤ) → eq_z a b ≡ true → a ≡ b
 unfolding eq_z
 same_z a b h = let u = and_parts (le_z a b) (le_z b a) h in both a b u.0 u.1
   where

@@ -38,7 +38,8 @@ pub record GrowsByLevels (T : Tensors) (X : ℕ) : Type 0 where
   pub next : planned T (suc X) ≡ planned T X ++ level T (suc X)
   pub keys : (key : Key) → StandsIn key (level T (suc X)) ↔ (IsPlanned T (suc X) key × (euler_of key ≡ suc X))
   pub kept : (Y : ℕ) → X ≤ Y → (d : Key) (r : ℕ) → r < length (planned T X) → get_or (planned T Y) r d ≡ get_or (planned T X) r d
-  pub ends : (Y : ℕ) → X ≤ Y → (d : Key) (r : ℕ) → r < length (planned T Y) → (r < length (planned T X)) ↔ (euler_of (get_or (planned T Y) r d) ≤ X)
+  pub ends : (Y : ℕ) → X ≤ Y → (d : Key) (r : ℕ) → r < length (planned T Y)
+      → (r < length (planned T X)) ↔ (euler_of (get_or (planned T Y) r d) ≤ X)
 
 abbrev pub AscendsLaw : Type 0
 AscendsLaw = (T : Tensors) (X : ℕ) → Ascends T X

@@ -14,7 +14,8 @@ pub record ComesFirst (T : Tensors) (X : ℕ) (k key : Key) : Type 0 where
 
 -- The keys that the terms of a planned key name at any of its indices come first; so do its needs, and all that it rests on.
 pub record NeedsComeFirst (T : Tensors) (X : ℕ) (key : Key) : Type 0 where
-  pub terms : (i : ℕ) → 0 < times i key.idx → (k : Key) → StandsIn k (each (terms T i key.g (remove i key.idx)) named) → ComesFirst T X k key
+  pub terms : (i : ℕ) → 0 < times i key.idx → (k : Key) → StandsIn k (each (terms T i key.g (remove i key.idx)) named)
+      → ComesFirst T X k key
   pub needs : (k : Key) → StandsIn k (needs T key) → ComesFirst T X k key
   pub rests : (k : Key) → RestsOn T key k → ComesFirst T X k key
 

@@ -41,7 +41,8 @@ pub record RanksInOrder (T : Tensors) (X : ℕ) : Type 0 where
   pub number : (key : Key) → IsPlanned T X key → place_of key (planned T X) ≡ number_before key (planned T X)
   pub order : (a b : Key) → IsPlanned T X a → IsPlanned T X b → (before a b ≡ true) ↔ (place_of a (planned T X) < place_of b (planned T X))
   pub kept : (Y : ℕ) → X ≤ Y → (key : Key) → IsPlanned T X key → place_of key (planned T Y) ≡ place_of key (planned T X)
-  pub named : (key : Key) → IsPlanned T X key → (i : ℕ) → 0 < times i key.idx → (k : Key) → StandsIn k (each (terms T i key.g (remove i key.idx)) named) → place_of k (planned T X) < place_of key (planned T X)
+  pub named : (key : Key) → IsPlanned T X key → (i : ℕ) → 0 < times i key.idx → (k : Key)
+      → StandsIn k (each (terms T i key.g (remove i key.idx)) named) → place_of k (planned T X) < place_of key (planned T X)
   pub needs : (key : Key) → IsPlanned T X key → (k : Key) → StandsIn k (needs T key) → place_of k (planned T X) < place_of key (planned T X)
   pub ends : (Y : ℕ) → X ≤ Y → (key : Key) → IsPlanned T Y key → (place_of key (planned T Y) < length (planned T X)) ↔ (euler_of key ≤ X)
 

@@ -7,26 +7,20 @@ use Rattle.airy_math.specs.Sums.{sum_over, when, each, below}
 use Rattle.airy_math.specs.Tensors.{Tensors, IsSymmetric, is_zero, row_c}
 use Rattle.airy_math.specs.Terms.{halved, obtained_half}
 use Rattle.airy_math.specs.Relations.{rel_AA, rel_BA, rel_BB, rel_BC, rel_D}
-use Rattle.airy_math.specs.Obtained.{obtained_sum, both_obtained, ◌⊛◌, obtained_from}
+use Rattle.airy_math.specs.Obtained.{obtained_sum, both_obtained, obtained_from}
 use Rattle.airy_math.proofs.SumLemmas.{0ℚ_idr, sum-cong, sum-append, sum-map, sum-each, sum-keep, sum_both, triangle}
 use Rattle.airy_math.proofs.PivotLemmas.{not_zero-when, when-and}
-use Rattle.airy_math.proofs.ObtainedLaw.{sum_exact, product_exact, half_exact, self_exact}
+use Rattle.airy_math.proofs.ObtainedLaw.{sum_exact, product_exact, half_exact, self_exact, times_exact, none_stays}
 use Rattle.airy_relations.specs.Sides.{Rel, AA, BA, BB, BC, D, Product, Alone, Times, Weighted, at_BA, at_BB, at_BC, at_D, of_pair, products, product_value, exact_side, obtained_value, obtained_side}
 use Rattle.airy_relations.specs.Numbers.{expression}
-use Rattle.airy_relations.proofs.ObtainedLemmas.{from_none}
 
 -- ---- what is obtained is exact
-
-weighted_exact : (o : Option ℚ) (x y z : ℚ) → ((w : ℚ) → o ≡ Some w → w ≡ x) → o ⊛ Some y ≡ Some z → z ≡ x *ℚ y
-unfolding ◌⊛◌ both_obtained
-weighted_exact None x y z h e = cc
-weighted_exact (Some w) x y z h e = product_exact w y z e ∙ ap (λ t. t *ℚ y) (h w refl)
 
 value_exact : (p : Product) (v : ℚ) → obtained_value p ≡ Some v → v ≡ product_value p
 unfolding obtained_value product_value
 value_exact (Alone x) v e = self_exact x v e
 value_exact (Times x y) v e = product_exact x y v e
-value_exact (Weighted h x y) v e = weighted_exact (obtained_half h x) (halved h x) y v (half_exact h x) e
+value_exact (Weighted h x y) v e = times_exact (obtained_half h x) (halved h x) y v (half_exact h x) e
 
 none_some : {A : Type 0} (v : ℚ) → ◌≡◌ {A = Option ℚ} None (Some v) → A
 none_some v e = cc
@@ -37,11 +31,11 @@ total_exact [] s v e = self_exact s v e ∙ sym (0ℚ_idr s)
 total_exact (p ∷ ps) s v e = by (obtained_value p) (value_exact p) (λ z. total_exact ps z v) e
   where
     more : (y : ℚ) (o : Option ℚ) → y ≡ product_value p → obtained_sum s y ≡ o → ((z : ℚ) → obtained_from (Some z) (map obtained_value ps) ≡ Some v → v ≡ z +ℚ sum_over ps product_value) → obtained_from o (map obtained_value ps) ≡ Some v → v ≡ s +ℚ (product_value p +ℚ sum_over ps product_value)
-    more y None u w r e = none_some v (sym (from_none (map obtained_value ps)) ∙ e)
+    more y None u w r e = none_some v (sym (none_stays (map obtained_value ps)) ∙ e)
     more y (Some z) u w r e = r z e ∙ ap (λ x. x +ℚ sum_over ps product_value) (sum_exact s y z w ∙ ap (λ x. s +ℚ x) u) ∙ +ℚ_assoc _ _ _
 
     by : (o : Option ℚ) → ((w : ℚ) → o ≡ Some w → w ≡ product_value p) → ((z : ℚ) → obtained_from (Some z) (map obtained_value ps) ≡ Some v → v ≡ z +ℚ sum_over ps product_value) → obtained_from (both_obtained obtained_sum (Some s) o) (map obtained_value ps) ≡ Some v → v ≡ s +ℚ (product_value p +ℚ sum_over ps product_value)
-    by None h r e = none_some v (sym (from_none (map obtained_value ps)) ∙ e)
+    by None h r e = none_some v (sym (none_stays (map obtained_value ps)) ∙ e)
     by (Some y) h r e = more y (obtained_sum s y) (h y refl) refl r e
 
 -- an obtained side is the exact one

@@ -1,10 +1,10 @@
 pub mod ObtainedLemmas
 pub mod ExactLemmas
 pub mod VerdictLemmas
+pub mod PlaceLemmas
 pub mod StepLemmas
 pub mod RowLemmas
 pub mod SumLoop
 pub mod ClosedLaw
-pub mod JumpLemmas
 pub mod SameVerdictLaw
 pub mod NoDifferenceLaw

@@ -1,19 +1,18 @@
 -- The verdict on places below dim is the same for two tensors with the same entries at indices below dim.
-use Rattle.std.proofs.Common.{ℕ, suc, ◌-◌, ◌<◌, ◌≤◌, ◌≡◌, refl, sym, ap, ap₂, ◌∙◌, not, ◌&&◌, List, [], ◌∷◌, ◌++◌, map, arith, leb, eqb, Some}
+use Rattle.std.proofs.Common.{ℕ, ◌<◌, ◌≤◌, ◌≡◌, refl, ap, ap₂, ◌∙◌, not, ◌&&◌, List, [], ◌∷◌, ◌++◌, map, arith, leb, eqb, Some}
 use Rattle.airy_math.specs.Obtained.{obtained_from}
 use Rattle.airy_math.specs.Rational.{ℚ}
 use Rattle.airy_math.specs.RationalLaws.{0ℚ}
-use Rattle.airy_math.specs.Sums.{below, count_from, each, keep}
+use Rattle.airy_math.specs.Sums.{below, each, keep}
 use Rattle.airy_math.specs.Tensors.{Tensors, SameEntries, is_zero, row_c}
-use Rattle.airy_math.proofs.SumLemmas.{Each, Each-below, Each-count, Each-each, Each-from_all, Each-map, Each-weaken}
+use Rattle.airy_math.proofs.SumLemmas.{Each, Each-below, Each-each, Each-map, Each-weaken}
 use Rattle.airy_math.proofs.PlannedLaw.{Each-keep}
 use Rattle.airy_math.proofs.SamePlanLaw.{each-cong_each}
 use Rattle.airy_relations.specs.Sides.{Rel, AA, BA, BB, BC, D, Product, Alone, Times, Weighted, at_BA, at_BB, at_BC, at_D, of_pair, products, obtained_value, obtained_side}
-use Rattle.airy_relations.specs.Places.{choices_k, choices_l, from_to}
+use Rattle.airy_relations.specs.Places.{Place, choices_k, choices_l, places}
 use Rattle.airy_relations.specs.SameVerdict.{SameVerdictLaw}
-use Rattle.airy_relations.specs.Verdicts.{Verdict, compared, or_later, first_over, verdict_at}
-use Rattle.airy_relations.specs.Walks.{place, over_l, over_k, over_j, over_i}
-use Rattle.airy_relations.proofs.VerdictLemmas.{verdict_is}
+use Rattle.airy_relations.specs.Verdicts.{Verdict, compared, or_later, first_over, verdict_at, verdict}
+use Rattle.airy_relations.proofs.PlaceLemmas.{IsPlace, each_place}
 use Rattle.airy_math.proofs.EachLemmas.{map-cong_each}
 
 -- ---- lists
@@ -22,13 +21,6 @@ first-cong_each : {A : Type 0} (f h : A → Verdict) (xs : List A) → Each (λ 
 unfolding first_over
 first-cong_each f h [] e = refl
 first-cong_each f h (x ∷ xs) e = ap₂ or_later e.0 (first-cong_each f h xs e.1)
-
-first-below : (f h : ℕ → Verdict) (n : ℕ) → ((a : ℕ) → a < n → f a ≡ h a) → first_over (below n) f ≡ first_over (below n) h
-first-below f h n e = first-cong_each f h (below n) (Each-below _ n e)
-
-first-between : (f h : ℕ → Verdict) (a b : ℕ) → a ≤ b → ((x : ℕ) → a ≤ x → x < b → f x ≡ h x) → first_over (from_to a b) f ≡ first_over (from_to a b) h
-unfolding from_to
-first-between f h a b p e = first-cong_each f h (count_from a (b - a)) (Each-count _ a (b - a) (λ x q r. e x q (omega arith)))
 
 three : (x x' y y' z z' : Product) → x ≡ x' → y ≡ y' → z ≡ z' → x ∷ y ∷ z ∷ [] ≡ x' ∷ y' ∷ z' ∷ []
 three x x' y y' z z' p q r = ap₂ ◌∷◌ p (ap₂ (λ u v. u ∷ v ∷ []) q r)
@@ -100,21 +92,12 @@ module _ (T T' : Tensors) (is : SameEntries T T') where
     unfolding obtained_side
     side_same rel i j k l p q r s = ap (λ ps. obtained_from (Some 0ℚ) (map obtained_value ps)) (products_same rel i j k l p q r s)
 
-    place_same : (rel : Rel) (i j k l : ℕ) → i < N → j < N → k < choices_k rel N → l < choices_l rel N → verdict_at T (place rel i j k l) ≡ verdict_at T' (place rel i j k l)
-    unfolding verdict_at place
-    place_same rel i j k l p q r s = ap₂ (compared (place rel i j k l)) (side_same rel i j k l p q r s) (side_same rel j i k l q p r s)
-
-    relation_same : (rel : Rel) → over_i T N rel ≡ over_i T' N rel
-    unfolding over_i over_j over_k over_l
-    relation_same rel =
-        first-below (over_j T N rel) (over_j T' N rel) N (λ i p.
-        first-between (over_k T N rel i) (over_k T' N rel i) (suc i) N (omega arith) (λ j ij q.
-        first-below (over_l T N rel i j) (over_l T' N rel i j) (choices_k rel N) (λ k r.
-        first-below (λ l. verdict_at T (place rel i j k l)) (λ l. verdict_at T' (place rel i j k l)) (choices_l rel N) (λ l s.
-        place_same rel i j k l p q r s))))
+    place_same : (p : Place) → IsPlace N p → verdict_at T p ≡ verdict_at T' p
+    unfolding verdict_at
+    place_same p is =
+        let hi : p.i < N = omega (arith, is.ordered, is.j_below) in
+        ap₂ (compared p) (side_same p.rel p.i p.j p.k p.l hi is.j_below is.k_below is.l_below) (side_same p.rel p.j p.i p.k p.l is.j_below hi is.k_below is.l_below)
 
 pub same_verdict : SameVerdictLaw
-same_verdict T T' is N h =
-    verdict_is T N
-    ∙ first-cong_each (over_i T N) (over_i T' N) (AA ∷ BA ∷ BB ∷ BC ∷ D ∷ []) (Each-from_all _ (AA ∷ BA ∷ BB ∷ BC ∷ D ∷ []) (relation_same T T' is N h))
-    ∙ sym (verdict_is T' N)
+unfolding verdict
+same_verdict T T' is N h = first-cong_each (verdict_at T) (verdict_at T') (places N) (each_place N _ (place_same T T' is N h))

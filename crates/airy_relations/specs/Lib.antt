@@ -7,4 +7,5 @@ pub mod Numbers
 pub mod Walks
 pub mod Steps
 pub mod Rows
+pub mod Threes
 pub mod Examples

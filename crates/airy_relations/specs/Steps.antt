@@ -1,3 +1,4 @@
+-- For private functions and for proofs: no public contract rests on this file.
 -- A total and the products that are added to it.
 use mathlib.Core.List.{List, map}
 use Rattle.std.specs.Prelude.{Option}

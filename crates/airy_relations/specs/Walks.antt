@@ -1,3 +1,4 @@
+-- For private functions and for proofs: no public contract rests on this file.
 -- The verdict on some of the places: those of one relation at which one index or more are given.
 use Prim.Native.Nat.{ℕ, suc}
 use Rattle.airy_math.specs.Sums.{below}

@@ -11,6 +11,7 @@ use crate::verdict::{Rel, Verdict};
 use sparse_tensor::Tensors;
 
 /// The verdict of one place.
+#[tactic(auto, using(crate::proofs::VerdictLemmas::equal_sides), unfolding(crate::specs::Verdicts::verdict_at, crate::specs::Verdicts::compared, crate::specs::Places::indices, crate::specs::Walks::place))]
 fn check_place(t: &Tensors, rel: Rel, i: u8, j: u8, k: u8, l: u8) -> Verdict
     requires k_below { k < (looked_up t.now).dim }
     requires l_below { l < (looked_up t.now).dim }
@@ -59,6 +60,7 @@ fn count_l(rel: Rel, places: u8) -> u8
 }
 
 /// The first verdict that isn't Closed over the places with these i, j and k.
+#[tactic(auto, using(crate::proofs::VerdictLemmas::along_numbers), unfolding(crate::specs::Walks::over_l))]
 fn check_l(t: &Tensors, places: u8, rel: Rel, i: u8, j: u8, k: u8) -> Verdict
     requires some { 0 < places }
     requires most { places ≤ (looked_up t.now).dim }
@@ -76,6 +78,7 @@ fn check_l(t: &Tensors, places: u8, rel: Rel, i: u8, j: u8, k: u8) -> Verdict
 }
 
 /// The first verdict that isn't Closed over the places with these i and j.
+#[tactic(auto, using(crate::proofs::VerdictLemmas::along_numbers), unfolding(crate::specs::Walks::over_k))]
 fn check_k(t: &Tensors, places: u8, rel: Rel, i: u8, j: u8) -> Verdict
     requires some { 0 < places }
     requires most { places ≤ (looked_up t.now).dim }
@@ -92,6 +95,7 @@ fn check_k(t: &Tensors, places: u8, rel: Rel, i: u8, j: u8) -> Verdict
 }
 
 /// The first verdict that isn't Closed over the places with this i.
+#[tactic(auto, using(crate::proofs::VerdictLemmas::along_numbers), unfolding(crate::specs::Walks::over_j))]
 fn check_j(t: &Tensors, places: u8, rel: Rel, i: u8) -> Verdict
     requires some { 0 < places }
     requires most { places ≤ (looked_up t.now).dim }
@@ -108,6 +112,7 @@ fn check_j(t: &Tensors, places: u8, rel: Rel, i: u8) -> Verdict
 }
 
 /// The first verdict that isn't Closed over the places of a relation.
+#[tactic(auto, using(crate::proofs::VerdictLemmas::along_numbers), unfolding(crate::specs::Walks::over_i))]
 fn check_i(t: &Tensors, places: u8, rel: Rel) -> Verdict
     requires some { 0 < places }
     requires most { places ≤ (looked_up t.now).dim }
@@ -123,6 +128,7 @@ fn check_i(t: &Tensors, places: u8, rel: Rel) -> Verdict
 }
 
 /// The first verdict that isn't Closed over all places.
+#[tactic(auto, using(crate::proofs::VerdictLemmas::along_list))]
 fn check_all(t: &Tensors, places: u8) -> Verdict
     requires some { 0 < places }
     requires most { places ≤ (looked_up t.now).dim }

@@ -1,29 +1,40 @@
-ghost use Rattle.std.specs.Prelude.{◌≡◌, Some, None};
+ghost use Rattle.std.specs.Prelude.{◌≡◌, ℕ, List, Some, None};
+ghost use Rattle.airy_math.specs.Rational.{ℚ};
 ghost use Rattle.airy_relations.specs.Rows.{first_at, first_index, behind, others, other_of, lesser};
 
 use crate::steps::zero;
 use frac128::Frac;
 
-/// A row of entries by their index ascending, which is read from its front.
+/// Values by an index ascending, which are read from their front.
+pub(crate) trait Values {
+    ghost left: { Self → List (ℕ × ℚ) };
+
+    /// The index of the first one that is left.
+    fn index(&mut self) -> Option<u8>
+        ensures value { result ≡ first_index (left self.old) }
+        ensures rest { left self.new ≡ left self.old };
+
+    /// The value at the index a, which is passed; 0 where what is left doesn't begin with a.
+    fn take_at(&mut self, a: u8) -> Frac
+        ensures value { result ≡ first_at a (left self.old) }
+        ensures rest { left self.new ≡ behind a (left self.old) };
+}
+
+/// A row of entries by their index ascending.
 #[derive(Clone, Copy)]
 pub(crate) struct Row<'a> {
     pub(crate) rest: &'a [(u8, Frac)],
 }
 
-impl Row<'_> {
-    /// The index of the first entry that is left.
-    pub(crate) fn index(&self) -> Option<u8>
-        ensures { result ≡ first_index self.now.rest.now }
-    {
+impl Values for Row<'_> {
+    ghost left = { λ r. r.rest.now };
+
+    fn index(&mut self) -> Option<u8> {
         let (index, _) = self.rest.first()?;
         Some(*index)
     }
 
-    /// The value at the index a, which is passed; 0 where the row doesn't begin with a.
-    pub(crate) fn take_at(&mut self, a: u8) -> Frac
-        ensures value { result ≡ first_at a self.old.rest.now }
-        ensures rest { self.new.rest.now ≡ behind a self.old.rest.now }
-    {
+    fn take_at(&mut self, a: u8) -> Frac {
         let Some(((index, value), rest)) = self.rest.split_first() else {
             return zero();
         };
@@ -48,20 +59,17 @@ fn other_of(b: u8, c: u8, l: u8) -> Option<u8>
     }
 }
 
-/// The entries of a list of pairs that have the index l, by their other index ascending, which is read from its front.
+/// The entries of a list of pairs that have the index l, by their other index ascending.
 #[derive(Clone, Copy)]
 pub(crate) struct Line<'a> {
     pub(crate) rest: &'a [(u8, u8, Frac)],
     pub(crate) l: u8,
 }
 
-impl Line<'_> {
-    /// The other index of the first entry with the index l that is left; the entries before it are passed.
-    pub(crate) fn index(&mut self) -> Option<u8>
-        ensures value { result ≡ first_index (others self.old.l self.old.rest.now) }
-        ensures rest { others self.new.l self.new.rest.now ≡ others self.old.l self.old.rest.now }
-        ensures same { self.new.l ≡ self.old.l }
-    {
+impl Values for Line<'_> {
+    ghost left = { λ r. others r.l r.rest.now };
+
+    fn index(&mut self) -> Option<u8> {
         while let Some(((b, c, _), rest)) = self.rest.split_first() {
             if let Some(other) = other_of(*b, *c, self.l) {
                 return Some(other);
@@ -71,12 +79,7 @@ impl Line<'_> {
         None
     }
 
-    /// The value at the other index a, which is passed; 0 where what is left doesn't begin with a.
-    pub(crate) fn take_at(&mut self, a: u8) -> Frac
-        ensures value { result ≡ first_at a (others self.old.l self.old.rest.now) }
-        ensures rest { others self.new.l self.new.rest.now ≡ behind a (others self.old.l self.old.rest.now) }
-        ensures same { self.new.l ≡ self.old.l }
-    {
+    fn take_at(&mut self, a: u8) -> Frac {
         while let Some(((b, c, value), rest)) = self.rest.split_first() {
             let Some(other) = other_of(*b, *c, self.l) else {
                 self.rest = rest;

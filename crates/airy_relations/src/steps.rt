@@ -1,8 +1,8 @@
-ghost use Rattle.std.specs.Prelude.{◌≡◌, Some, eqb};
+ghost use Rattle.std.specs.Prelude.{◌≡◌, ◌∷◌, [], Some, eqb};
 ghost use Rattle.airy_math.specs.RationalLaws.{0ℚ, half};
 ghost use Rattle.airy_math.specs.Terms.{obtained_half};
 ghost use Rattle.airy_relations.specs.Sides.{Times};
-ghost use Rattle.airy_relations.specs.Steps.{added};
+ghost use Rattle.airy_relations.specs.Steps.{added, added_all};
 
 use frac128::Frac;
 
@@ -42,4 +42,19 @@ pub(crate) fn add_product(total: Frac, x: Frac, y: Frac) -> Option<Frac>
         return Some(total);
     }
     total.add(x.mul(y)?)
+}
+
+/// The total and three products, each of two factors, added from left to right.
+#[tactic(auto, unfolding(crate::specs::Steps::added, crate::specs::Steps::added_all, airy_math::specs::Obtained::obtained_from, airy_math::specs::Obtained::both_obtained))]
+pub(crate) fn add_three(
+    total: Frac,
+    x: (Frac, Frac),
+    y: (Frac, Frac),
+    z: (Frac, Frac),
+) -> Option<Frac>
+    ensures { result ≡ added_all (Some total) (Times x.0 x.1 ∷ Times y.0 y.1 ∷ Times z.0 z.1 ∷ []) }
+{
+    let total = add_product(total, x.0, x.1)?;
+    let total = add_product(total, y.0, y.1)?;
+    add_product(total, z.0, z.1)
 }

@@ -7,13 +7,14 @@ use Rattle.command_words.specs.declared.line.Line.TheVariants.{Ask, Finish}
 use Rattle.named_families.specs.declared.petersson.MakeErr.TheVariants as make
 use Rattle.session_law.specs.Sessions.{answered, session_of, session_report, stored_session, AreShown}
 use Rattle.run_reports.proofs.ReportLemmas.{ends_by, told_cause}
-use Rattle.session_law.proofs.SessionLemmas.{SessionLaws, session-bound, session-stood, same_told, shown_law, text-made, text-planned}
+use Rattle.session_law.proofs.SessionLemmas.{SessionLaws, session-bound, session-stood, same_told, shown_law, text-planned}
 use Rattle.run_reports.proofs.StatusLemmas.{status_of}
 use Rattle.run_reports.proofs.TextLemmas.{own_of, fails_by}
 use Rattle.airy_wait.specs.Finished.{finished_asks}
 use Rattle.airy_wait.specs.Turns.{plan_replies}
 use Rattle.airy_wait.specs.Waiting.{replies_of, stored_waiting, waiting_report, closed_waiting, LeadsToClosedWaiting, LeadsToWaiting}
 use Rattle.airy_wait.proofs.FinishedLemmas.{one_list}
+use Rattle.run_reports.proofs.StructureLemmas.{text_made}
 
 -- ---- a plan of stored tensors
 

@@ -1,3 +1,4 @@
+-- For private functions and for proofs: no public contract rests on this file.
 -- Which asks are whose, and what the callers were told.
 use Rattle.std.specs.Prelude.{◌≡◌, ℕ, ◌+◌, ◌*◌, ◌<◌, ◌≤◌, List, length, map, slice_get, slice_index_or, vec_capacity, []}
 use Rattle.airy_math.specs.Keys.{Key}

@@ -1,15 +1,10 @@
 -- The lines of the numbers of brackets, one after the other.
 use Rattle.std.proofs.Common.{◌≡◌, ◌≢◌, ℕ, refl, sym, ap, ◌∙◌, [], ◌∷◌, ◌++◌, List, length, ◌<◌, subst, append-nil, append_assoc, arith, Bool, true, false, not, is_some, cond, codes, Option, Some, None, Ok, Err}
+use Rattle.airymore.proofs.Words.{Appends, each, CloseByConstants, TellsClosing, Place, from, from_any, places, brackets_report, first_over, found_report, number_at, number_text, numbers_report, numbers_text, obtained_at, over_or, place_text, IsBrackets, LeadsToBrackets}
 use Rattle.run_reports.proofs.Names.{AppendsPrefix, Taking, Writes, ℚ, ℚ_computes, 0ℚ, Tensors, is_zero, fraction_text, Entries, looked_up, AreSound, Verdict, Closed, Differs, Over, verdict, Report, Ends, EndsBy, closed, of_relations, relations_report}
-use Rattle.std.specs.Io.KnownBytes.{Appends}
 use Rattle.airy_io.proofs.Prefixes.{AppendsPrefix-more}
-use Rattle.airy_math.specs.Sums.{each}
 use Rattle.airy_math.proofs.PivotLemmas.{zero_number}
 use Rattle.airy_closing.specs.Closing.{BracketLaw, OperatorsClose, structure_constant}
-use Rattle.airy_closing.specs.Constants.{CloseByConstants, TellsClosing}
-use Rattle.airymore.specs.declared.places.Place.{Place}
-use Rattle.airymore.specs.Places.{from, from_any, places}
-use Rattle.airymore.specs.Brackets.{brackets_report, first_over, found_report, number_at, number_text, numbers_report, numbers_text, obtained_at, over_or, place_text, IsBrackets, LeadsToBrackets}
 
 of_zero : (p : Place) → number_text p 0ℚ ≡ []
 unfolding number_text is_zero 0ℚ ℚ_computes

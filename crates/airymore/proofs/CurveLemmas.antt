@@ -1,23 +1,17 @@
 -- What the report of a curve's table says of the solutions of the curve.
 use Rattle.std.proofs.Common.{◌≡◌, inl, inr, ℕ, suc, ◌<◌, ◌≤◌, refl, sym, ap, ◌∙◌, subst, arith, length, List, [], ◌++◌, get_or, append-nil, rules, Option, Some, None, Bool, true, false, cond, IsTrue, codes}
-use Rattle.run_reports.proofs.Names.{Taking, key_text, BelowDimLaw, top_wk, Key, planned, PlanLaw, key_at, ℚ, Tensors, SameEntries, Entries, Limit, Within, PassesBound, PassesCells, PassesNeeds, limit, outcomes, full_table, value_of, fraction_text, check, check_keys, HasValue, SameTablesLaw, is_bound, EndsBy, Report, Ends, EndsOrWants, bound_refused, out_of_memory, row_text, checked_report, making_report, plan_report, cells_report, orders_differ, stored_report, verdict_of}
-use Rattle.run_reports.proofs.StructureLemmas.{entries_self}
-use Rattle.airy_math.specs.Curves.{curve, number_of, of_list}
-use Rattle.airy_curve.specs.Steps.{curve_refusal}
+use Rattle.run_reports.proofs.Names.{Taking, key_text, BelowDimLaw, top_wk, Key, planned, PlanLaw, key_at, ℚ, Tensors, Entries, Limit, Within, PassesBound, PassesCells, PassesNeeds, limit, outcomes, full_table, value_of, fraction_text, HasValue, SameTablesLaw, is_bound, EndsBy, Report, Ends, EndsOrWants, bound_refused, out_of_memory, row_text, checked_report, making_report, plan_report, cells_report, orders_differ, stored_report, verdict_of}
+use Rattle.airymore.proofs.Words.{entries_self, curve, number_of, of_list, curve_refusal, CurveErr, length-outcomes, lines_of, rows-lines, length-lines, line_at, values_found, differ_of, IsPlain, plain_bound, plain_cells, plain_making, plain_plan, bound_some, status_of, curve_tensors, curve_report, curve_lines, curve_error, IsCurveLine, CurveHeadline, CurveHasTwoOrders, LeadsToCurve, CurveStep, CurveStepsLaw}
 use Rattle.airy_curve.specs.Storing.{Names, StandsFor}
-use Rattle.airy_curve.specs.declared.making.CurveErr.{CurveErr}
 use Rattle.airy_curve.specs.declared.making.CurveErr.TheVariants as error
 use Rattle.amp_terms.specs.declared.Outcome.TheVariants.{Over}
 use Rattle.amp_terms.specs.Text.{value_text, power_text}
 use Rattle.curve_law.specs.Tables.{CurveTableLaw, IsCurveTable}
 use Rattle.series_law.specs.Check.{Verdict}
 use Rattle.series_law.specs.Check as check
-use Rattle.amp_terms.proofs.OutcomeLemmas.{length-outcomes}
-use Rattle.run_reports.proofs.LineLemmas.{lines_of, rows-lines, length-lines, line_at, values_found, differ_of}
-use Rattle.run_reports.proofs.StatusLemmas.{IsPlain, plain_bound, plain_cells, plain_making, plain_plan, some_bound, status_of}
 use Rattle.run_reports.proofs.StoredLemmas.{stored_same}
-use Rattle.airymore.specs.Curves.{curve_tensors, curve_report, curve_lines, curve_error, IsCurveLine, CurveHeadline, CurveHasTwoOrders, LeadsToCurve, CurveStep, CurveStepsLaw}
 use Rattle.airymore.specs.Curves as steps
+use Rattle.command_words.proofs.ScriptLemmas.{bound_some}
 
 -- the laws that the headline rests on
 pub record CurveLaws : Type 0 where
@@ -67,7 +61,7 @@ module _ (laws : CurveLaws) (us : List ℚ) (X : ℕ) (bounded : is_bound X ≡ 
 
   table : (M : ℕ) → top_wk X ≤ M → IsCurveTable T (number_of (of_list us)) X M
   unfolding curve_tensors
-  table M h = laws.tables T (number_of (of_list us)) X M (some_bound X bounded) (entries_self T) h
+  table M h = laws.tables T (number_of (of_list us)) X M (bound_some X bounded) (entries_self T) h
 
   module _ (found : verdict_of (curve_tensors us X) X ≡ check.Solution) where
     line_there : (r : ℕ) → r < length keys → IsCurveLine us X (key_at keys r) (get_or lines r [])

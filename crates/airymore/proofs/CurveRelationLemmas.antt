@@ -1,17 +1,13 @@
 -- What the report of a curve's relations says of them.
 use Rattle.std.proofs.Common.{◌≡◌, ◌≢◌, inl, inr, ℕ, ◌+◌, ◌*◌, ◌≤◌, refl, subst, arith, List, Option, Some, None}
-use Rattle.run_reports.proofs.Names.{Taking, ℚ, 1ℚ, Close, Entries, looked_up, Verdict, Closed, Differs, Over, SameVerdictLaw, verdict, EndsBy, Report, Ends, out_of_memory, closed, relations_report, making_report}
+use Rattle.run_reports.proofs.Names.{Taking, ℚ, 1ℚ, Close, Entries, looked_up, SameVerdictLaw, verdict, EndsBy, Report, Ends, out_of_memory, closed, relations_report, making_report}
 use Rattle.run_reports.proofs.RelationLemmas.{no_four}
 use Rattle.airy_relations.specs.NoDifference.{FindsNoDifference, NoDifferenceLaw}
-use Rattle.airy_math.specs.Curves.{curve, number_of, numbers_down, first_or_zero, of_list}
-use Rattle.airy_curve.specs.Curve.{CurveRelations}
-use Rattle.airy_curve.specs.Shapes.{CurveShapes}
-use Rattle.airy_curve.specs.Steps.{curve_refusal}
+use Rattle.relation_law.specs.Curve.{CurveRelations}
+use Rattle.relation_law.specs.Shapes.{CurveShapes}
+use Rattle.airymore.proofs.Words.{curve, number_of, numbers_down, first_or_zero, of_list, curve_refusal, CurveErr, IsPlain, plain_closed, plain_making, plain_relations, curve_below, curve_relations_report, curve_error, LeadsToCurveRelations}
 use Rattle.airy_curve.specs.Storing.{Names, StandsFor}
-use Rattle.airy_curve.specs.declared.making.CurveErr.{CurveErr}
 use Rattle.airy_curve.specs.declared.making.CurveErr.TheVariants as error
-use Rattle.run_reports.proofs.StatusLemmas.{IsPlain, plain_closed, plain_making, plain_relations}
-use Rattle.airymore.specs.Curves.{curve_below, curve_relations_report, curve_error, LeadsToCurveRelations}
 
 -- the laws on the relations of curves
 pub record RelationLaws : Type 0 where

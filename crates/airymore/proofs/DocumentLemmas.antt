@@ -1,48 +1,14 @@
 -- What the document of a structure's table says of the solutions.
-use Rattle.std.proofs.Common.{◌≡◌, ◌≢◌, ◌⊎◌, inl, inr, ℕ, zero, suc, ◌<◌, ◌≤◌, refl, sym, ap, ap₂, ◌∙◌, subst, arith, length, List, [], ◌∷◌, get_or, map, Option, Some, None, Bool, true, false, cond, IsTrue, nat_eq}
-use Rattle.run_reports.proofs.Names.{Taking, BelowDimLaw, Key, planned, PlanLaw, key_at, ℚ, 0ℚ, Tensors, OwnTensorsLaw, letter_of, Structure, IsSound, IsSolutionOf, Lettered, letter_value, planned_tensors, tensors_at, Series, NoOrdersLaw, Verdict, Closed, Differs, Over, verdict, Entries, looked_up, AreSound, Planning, tensors_of, keys_of, Within, limit_of, PlanCause, Outcome, outcomes, first_without, full_table, next_rank, value_of, value_of_cell, outcomes_of, check, JobUniquenessLaw, Shown, series_with, SameTablesLaw, is_bound, MakeErr, Names, Report, Ends, EndsOrWants, bound_refused, out_of_memory, EndsBy, relations_report, of_relations, closed, cause_report, stored_report, verdict_of, checked_report, cells_report, ArePlanned, Step, outside, unmade, limited, blank, over, orders, whole, making_error, making_over, structure_of, table_report, making_report, AreClosed, has_letter, text_structure, Headline, HasTwoOrders, ShowsNumber}
-use Rattle.airy_math.specs.Jobs.{Text}
-use Rattle.amp_plan.specs.Limits.{Tells}
+use Rattle.std.proofs.Common.{◌≡◌, ◌≢◌, ◌⊎◌, inl, inr, ℕ, suc, ◌<◌, ◌≤◌, refl, sym, ap, ap₂, ◌∙◌, subst, arith, length, List, [], ◌∷◌, get_or, map, Option, Some, None, true, false, IsTrue}
+use Rattle.run_reports.proofs.Names.{Taking, BelowDimLaw, planned, PlanLaw, key_at, ℚ, 0ℚ, Tensors, OwnTensorsLaw, Structure, IsSound, IsSolutionOf, letter_value, planned_tensors, tensors_at, NoOrdersLaw, Verdict, Closed, verdict, Entries, looked_up, AreSound, Planning, tensors_of, keys_of, Outcome, outcomes, full_table, value_of, value_of_cell, JobUniquenessLaw, Shown, series_with, SameTablesLaw, is_bound, MakeErr, Names, Report, Ends, EndsOrWants, bound_refused, out_of_memory, EndsBy, relations_report, of_relations, closed, in_place, formed_stored, verdict_of, ArePlanned, making_error, making_over, table_report, making_report, AreClosed, text_structure, HasTwoOrders}
 use Rattle.amp_terms.specs.declared.Outcome.TheVariants.{Value, Blocked}
 use Rattle.amp_terms.specs.declared.Outcome.TheVariants as outcome
-use Rattle.series_law.specs.Check.{Solution}
-use Rattle.amp_terms.proofs.OutcomeLemmas.{length-outcomes}
+use Rattle.airymore.proofs.Words.{length-outcomes, Kind, named, text, kind_text, as_table, JobLaws, shown_value, values_found, ends_by, IsPlain, plain_of, plain_table, status_of, refused_bound, stood_report, text_planned, text_stored, text_never, unsolvable_of, family_sound, whole_step, Said, text_sound, own_of, fails_by, structure_of_kind, table_document, json_report, text_document, ValuesHeadline, DocumentHeadline, LeadsToDocument, LeadsToTextDocument, stored_document, plan_document}
 use Rattle.named_families.specs.declared.petersson.MakeErr.TheVariants as make
 use Rattle.airy_json.specs.Document.{document_text, values_in}
-use Rattle.airy_json.specs.Reading.{Kind, named, text, kind_text}
-use Rattle.airy_json.specs.Verifying.{as_table}
 use Rattle.airy_json.specs.Verified.{job_series}
 use Rattle.airy_json.proofs.GivenLemmas.{length-table, value_listed}
-use Rattle.run_reports.proofs.HeadlineLemmas.{JobLaws, shown_value}
-use Rattle.run_reports.proofs.LineLemmas.{values_found}
-use Rattle.run_reports.proofs.ReportLemmas.{ends_by, not_whole, report_of_plan, report_of_cause}
-use Rattle.run_reports.proofs.StatusLemmas.{IsPlain, IsOther, plain_of, plain_table, plain_other, other_said, status_of, some_bound}
-use Rattle.run_reports.proofs.StructureLemmas.{error_ends, refused_bound, stood_report, text_planned, text_stored, text_never}
-use Rattle.run_reports.proofs.TableHeadline.{unsolvable_of, family_sound, whole_step}
-use Rattle.run_reports.proofs.JobLemmas.{Said}
-use Rattle.run_reports.proofs.TextLemmas.{text_sound, own_of, fails_by}
-use Rattle.airymore.specs.Documents.{structure_of_kind, in_place, table_document, json_report, text_document, ValuesHeadline, DocumentHeadline, LeadsToDocument, LeadsToTextDocument, stored_document, plan_document}
-
--- ---- other bytes in the place of those of status 0
-
-pub place_other : (bytes : List ℕ) (r : Report) → r.status ≢ 0 → in_place bytes r ≡ r
-unfolding in_place
-place_other bytes r n = let e : nat_eq r.status 0 ≡ false = grind (arith, n) in rw e refl
-
-pub place_whole : (bytes : List ℕ) (r : Report) → r.status ≡ 0 → in_place bytes r ≡ record { status = 0; bytes = bytes }
-unfolding in_place
-place_whole bytes r h = let e : nat_eq r.status 0 ≡ true = grind (arith, h) in rw e refl
-
-place_status : (bytes : List ℕ) (r : Report) → (in_place bytes r).status ≡ r.status
-unfolding in_place
-place_status bytes r = by (nat_eq r.status 0) refl
-  where
-    by : (b : Bool) → nat_eq r.status 0 ≡ b → (cond b (record { status = 0; bytes = bytes }) r).status ≡ r.status
-    by true e = let h : r.status ≡ 0 = grind arith in sym h
-    by false e = refl
-
-pub plain_place : (bytes : List ℕ) (r : Report) → IsPlain r → IsPlain (in_place bytes r)
-plain_place bytes r h = record { is = subst (λ (n : ℕ). (n ≡ 0) ⊎ ((3 ≤ n) × (n ≤ 7))) (sym (place_status bytes r)) h.is }
+use Rattle.run_reports.proofs.FormLemmas.{place_other, place_whole, place_status, plain_place}
 
 pub plain_json : (kind : Kind) (X : ℕ) → IsPlain (json_report kind X)
 unfolding json_report
@@ -125,51 +91,16 @@ other_document kind X all report said not_0 not_7 = record { said = said; headli
 
 -- ---- what the code's parts write
 
-pub document_of_plan : (kind : List ℕ) (t : Entries) (X : ℕ) (p : Planning) → p ≡ record { tensors = t; bound = X } → limit_of (record { tensors = t; bound = X }) ≡ Within
-    → stored_document kind t X ≡ plan_document kind p
-unfolding stored_document plan_document tensors_of
-document_of_plan kind t X p made within =
-    ap₂ in_place (ap (λ (q : Planning). table_document kind (looked_up q.tensors) q.bound) (sym made)) (report_of_plan t X p made within)
+-- stored tensors, in the words of a form
+pub formed_document : (kind : List ℕ) (t : Entries) (X : ℕ) → formed_stored (plan_document kind) t X ≡ stored_document kind t X
+unfolding stored_document tensors_of
+formed_document kind t X = refl
 
-pub document_of_cause : (kind : List ℕ) (t : Entries) (X : ℕ) (why : PlanCause) → Tells (record { tensors = t; bound = X }) why
-    → (cause_report why ≡ stored_document kind t X) ⊎ (cause_report why ≡ out_of_memory)
-unfolding stored_document
-document_of_cause kind t X why tells = by (report_of_cause t X why tells)
-  where
-    bytes : List ℕ
-    bytes = table_document kind (looked_up t) X
-
-    by : (cause_report why ≡ stored_report t X) ⊎ (cause_report why ≡ out_of_memory) → (cause_report why ≡ in_place bytes (stored_report t X)) ⊎ (cause_report why ≡ out_of_memory)
-    by (inl e) = inl (sym (place_other bytes (cause_report why) (not_whole why)) ∙ ap (in_place bytes) e)
-    by (inr e) = inr e
-
--- a checked table: what another verdict than Solution leads to
-pub document_refused : (kind : List ℕ) (p : Planning) (r : Report) → cells_report p.tensors.letter (tensors_of p) p.bound ≡ r → r.status ≢ 0 → plan_document kind p ≡ r
-unfolding plan_document
-document_refused kind p r e n = ap (in_place (table_document kind (tensors_of p) p.bound)) e ∙ place_other _ r n
-
--- and a whole one
-pub document_whole : (kind : List ℕ) (p : Planning) (table : List (Option Outcome)) (r : Report) → table ≡ full_table (tensors_of p) p.bound → cells_report p.tensors.letter (tensors_of p) p.bound ≡ r → r.status ≡ 0
-    → plan_document kind p ≡ record { status = 0; bytes = document_text kind p.bound (keys_of p) (values_in table) }
-unfolding plan_document table_document keys_of
-document_whole kind p table r full e n =
-    place_whole _ _ (status_of e ∙ n) ∙ ap (λ t. record { status = 0; bytes = document_text kind p.bound (planned (tensors_of p) p.bound) (values_in t) }) (sym full)
-
--- a table in which the check finds nothing has a Value at each rank
-none_without : (os : List Outcome) → ((r : ℕ) → r < length os → (w : ℚ) × (get_or os r outcome.Over ≡ Value w)) → first_without (map Some os) ≡ None
-unfolding first_without next_rank
-none_without [] h = refl
-none_without (o ∷ os) h = by o (h 0 (omega arith)) (none_without os (λ r l. h (suc r) (omega arith)))
-  where
-    by : (o : Outcome) → (w : ℚ) × (o ≡ Value w) → first_without (map Some os) ≡ None → first_without (map Some (o ∷ os)) ≡ None
-    by (Value v) k e = ap next_rank e
-    by outcome.Over k e = let n : outcome.Over ≡ Value k.0 = k.1 in cc
-    by (Blocked r) k e = let n : Blocked r ≡ Value k.0 = k.1 in cc
-
-pub values_there : (p : Planning) (table : List (Option Outcome)) → table ≡ full_table (tensors_of p) p.bound → check (tensors_of p) p.bound (outcomes_of p) ≡ Solution → first_without table ≡ None
-unfolding full_table outcomes_of verdict_of
-values_there p table full found =
-    ap first_without full ∙ none_without (outcomes (tensors_of p) p.bound) (λ r h. values_found (tensors_of p) p.bound found r (omega (arith, h, length-outcomes (tensors_of p) p.bound)))
+-- the document of a whole table, in the words of a form
+pub document_written : (kind : List ℕ) (p : Planning) (table : List (Option Outcome)) → table ≡ full_table (tensors_of p) p.bound
+    → document_text kind p.bound (keys_of p) (values_in table) ≡ plan_document kind p
+unfolding table_document keys_of
+document_written kind p table full = ap (λ t. document_text kind p.bound (planned (tensors_of p) p.bound) (values_in t)) full
 
 -- the document of stored tensors that are a family's
 pub stood_document : (kind : Kind) (t : Entries) (X : ℕ) → PlanLaw → BelowDimLaw → SameTablesLaw → is_bound X ≡ true → making_over (structure_of_kind kind) X ≡ None → ArePlanned t (structure_of_kind kind) X

@@ -1,3 +1,4 @@
+pub mod Words
 pub mod PlaceLemmas
 pub mod BracketLemmas
 pub mod QuickLemmas

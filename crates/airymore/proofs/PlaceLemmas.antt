@@ -1,9 +1,8 @@
 -- The walk over the places.
 use Rattle.std.proofs.Common.{◌≡◌, ℕ, zero, suc, ◌-◌, ◌<◌, ◌≤◌, refl, sym, ap, ap₂, ◌∙◌, arith, List, [], ◌∷◌, ◌++◌, map, append_assoc}
-use Rattle.airy_math.specs.Sums.{below, count_from, each}
+use Rattle.airymore.proofs.Words.{below, count_from, each, Place, from, of_one, of_pair, place, places}
 use Rattle.airy_relations.specs.Places.{from_to}
-use Rattle.airymore.specs.declared.places.Place.{Place}
-use Rattle.airymore.specs.Places.{from, of_one, of_pair, place, places}
+use Rattle.airy_relations.proofs.VerdictLemmas.{from_nothing, from_zero}
 
 to_more : (a m : ℕ) → a < m → from_to a m ≡ a ∷ from_to (suc a) m
 unfolding from_to count_from
@@ -13,26 +12,18 @@ to_last : (a m : ℕ) → suc a ≡ m → from_to a m ≡ a ∷ []
 unfolding from_to count_from
 to_last a m h = let e : m - a ≡ 1 = omega arith in ap (count_from a) e
 
-to_none : (a m : ℕ) → m ≤ a → from_to a m ≡ []
-unfolding from_to count_from
-to_none a m h = let e : m - a ≡ 0 = omega arith in ap (count_from a) e
-
-to_all : (m : ℕ) → from_to 0 m ≡ below m
-unfolding from_to below
-to_all m = let e : m - 0 ≡ m = omega arith in ap (count_from 0) e
-
 each_more : {B : Type 0} (f : ℕ → List B) (a m : ℕ) → a < m → each (from_to a m) f ≡ f a ++ each (from_to (suc a) m) f
 unfolding each
 each_more f a m h = ap (λ xs. each xs f) (to_more a m h)
 
 each_none : {B : Type 0} (f : ℕ → List B) (a m : ℕ) → m ≤ a → each (from_to a m) f ≡ []
 unfolding each
-each_none f a m h = ap (λ xs. each xs f) (to_none a m h)
+each_none f a m h = ap (λ xs. each xs f) (from_nothing a m h)
 
 -- the places from the first of a pair on
 from_pair : (m i j : ℕ) → from m (place i j 0) ≡ of_pair m i j ++ (each (from_to (suc j) m) (of_pair m i) ++ each (from_to (suc i) m) (of_one m))
 unfolding from of_pair place
-from_pair m i j = ap (λ xs. map (place i j) xs ++ (each (from_to (suc j) m) (of_pair m i) ++ each (from_to (suc i) m) (of_one m))) (to_all m)
+from_pair m i j = ap (λ xs. map (place i j) xs ++ (each (from_to (suc j) m) (of_pair m i) ++ each (from_to (suc i) m) (of_one m))) (from_zero m)
 
 -- those of the pairs from j on, and then of the operators behind i
 from_j : (m i j : ℕ) → j < m → each (from_to j m) (of_pair m i) ++ each (from_to (suc i) m) (of_one m) ≡ from m (place i j 0)
@@ -89,7 +80,7 @@ next_none m i j a last end order h =
 
 pub first_of : (m : ℕ) → 1 < m → from m (place 0 1 0) ≡ places m
 unfolding places
-first_of m h = sym (from_i m 0 h) ∙ ap (λ xs. each xs (of_one m)) (to_all m)
+first_of m h = sym (from_i m 0 h) ∙ ap (λ xs. each xs (of_one m)) (from_zero m)
 
 pub first_none : (m : ℕ) → m < 2 → [] ≡ places m
 unfolding places below count_from each of_one from_to

@@ -1,21 +1,14 @@
 -- A table that is printed without a look at its pivots has the headline.
-use Rattle.std.proofs.Common.{◌≡◌, ◌≢◌, ◌⊎◌, inl, inr, ℕ, ◌<◌, refl, sym, ap, ◌∙◌, subst, arith, length, zero, suc, map, List, [], ◌∷◌, get_or, Bool, true, false, cond, Option, Some, None}
-use Rattle.run_reports.proofs.Names.{ℚ, Tensors, planned, Key, PlanLaw, key_at, key_text, Close, Structure, Lettered, planned_tensors, OwnTensorsLaw, Taking, Verdict, Closed, Differs, verdict, Entries, looked_up, AreSound, Limit, Within, PassesBound, PassesCells, PassesNeeds, limit, limit_of, Planning, tensors_of, PlanCause, Outcome, outcomes, has_value, first_without, full_table, next_rank, JobSolutionLaw, JobUniquenessLaw, AllPivots, EveryPivotLaw, HasValues, Report, Ends, EndsOrWants, out_of_memory, EndsBy, cause_report, over_at, plan_report, rows_text, table_text, closed, of_relations, relations_report, text_structure, has_letter, whole_table, AreClosed, Headline, is_bound}
-use Rattle.airy_math.specs.Jobs.{Text}
-use Rattle.airy_relations.specs.declared.verdict.Verdict.TheVariants as relations
+use Rattle.std.proofs.Common.{◌≡◌, ◌≢◌, ◌⊎◌, inl, inr, ℕ, ◌<◌, refl, sym, ap, ◌∙◌, subst, arith, length, zero, suc, map, List, [], ◌∷◌, get_or, true, Option, Some, None}
+use Rattle.airymore.proofs.Words.{length-outcomes, headline_by, told_cause, bound_some, text_letter, text_planned, text_sound, own_of, fails_by, plan_quick, quick_cells, quick_report, quick_table, valued_report, LeadsToQuick}
+use Rattle.run_reports.proofs.Names.{ℚ, Tensors, planned, Key, PlanLaw, key_at, key_text, Close, Structure, planned_tensors, OwnTensorsLaw, Taking, Verdict, Closed, verdict, Entries, looked_up, AreSound, Limit, Within, PassesBound, PassesCells, PassesNeeds, limit, limit_of, Planning, tensors_of, PlanCause, Outcome, outcomes, has_value, first_without, full_table, next_rank, JobSolutionLaw, JobUniquenessLaw, AllPivots, EveryPivotLaw, HasValues, Report, Ends, EndsOrWants, out_of_memory, EndsBy, cause_report, over_at, plan_report, rows_text, table_text, closed, of_relations, relations_report, text_structure, whole_table, AreClosed, Headline, is_bound}
 use Rattle.amp_plan.specs.Limits.{Tells}
 use Rattle.amp_plan.specs.Plans as plans
 use Rattle.amp_terms.specs.declared.Outcome.TheVariants.{Value, Over, Blocked}
 use Rattle.series_law.specs.First.{HaveValues}
-use Rattle.amp_terms.proofs.OutcomeLemmas.{length-outcomes}
 use Rattle.airy_exists.specs.Agreement.{answer_at}
 use Rattle.airy_exists.specs.declared.ends.Agreed.TheVariants.{Solution, NotValue}
-use Rattle.run_reports.proofs.HeadlineLemmas.{headline_by}
-use Rattle.run_reports.proofs.ReportLemmas.{told_cause}
-use Rattle.run_reports.proofs.StatusLemmas.{some_bound}
-use Rattle.run_reports.proofs.StructureLemmas.{text_letter, text_planned}
-use Rattle.run_reports.proofs.TextLemmas.{text_sound, own_of, fails_by}
-use Rattle.airymore.specs.Quick.{plan_quick, quick_cells, quick_report, quick_table, valued_report, LeadsToQuick}
+use Rattle.command_words.proofs.ScriptLemmas.{bound_some}
 
 -- ---- what the plan leads to
 
@@ -97,7 +90,7 @@ module _ (t : Entries) (X : ℕ) where
   unfolding HaveValues looked_up
   quick_headline laws sound bounded close none =
       subst (Headline s X) lines_are
-      (headline_by laws.unique laws.planned s X (text_sound t sound) (some_bound X bounded) planned_there (laws.solution s X (text_sound t sound) (some_bound X bounded) _ pivots))
+      (headline_by laws.unique laws.planned s X (text_sound t sound) (bound_some X bounded) planned_there (laws.solution s X (text_sound t sound) (bound_some X bounded) _ pivots))
     where
       planned_there : (r : ℕ) → r < length (planned (planned_tensors s X) X) → (w : ℚ) × (get_or (outcomes (planned_tensors s X) X) r Over ≡ Value w)
       planned_there = subst (λ (T : Tensors). (r : ℕ) → r < length (planned T X) → (w : ℚ) × (get_or (outcomes T X) r Over ≡ Value w)) (sym (text_planned t X)) (there none)

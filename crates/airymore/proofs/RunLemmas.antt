@@ -1,15 +1,6 @@
 -- What the jobs lead to, and its status.
-use Rattle.std.proofs.Common.{◌≡◌, ◌≢◌, ◌⊎◌, inl, inr, ℕ, arith, refl, sym, subst, ◌<◌, ◌≤◌, ap, ◌∙◌, IsTrue, List, Option, Some, None}
-use Rattle.run_reports.proofs.Names.{Giving, Rose, ℚ, Tensors, limit, first_without, full_table, is_bound, Entries, looked_up, Report, Ends, out_of_memory, EndsBy, EndsOfText, EndsWithBound, LeadsFromText, LeadsWithBound, beyond, within, Run, AnswersBy}
-use Rattle.more_words.specs.MoreWords.{Reading, Curve, CurveRelations, Brackets, Quick, reading_of}
-use Rattle.run_reports.proofs.JobLemmas.{Said}
-use Rattle.run_reports.proofs.StatusLemmas.{IsPlain, IsOther, other_said, other_wanting, plain_of, plain_other, plain_plan, status_of}
-use Rattle.airymore.specs.declared.places.Place.{Place}
-use Rattle.airymore.specs.Places.{places}
-use Rattle.airymore.specs.Brackets.{brackets_report, first_over, found_report, numbers_report, LeadsToBrackets}
-use Rattle.airymore.specs.Curves.{LeadsToCurve, LeadsToCurveRelations, curve_report, curve_relations_report}
-use Rattle.airymore.specs.Quick.{quick_cells, quick_report, quick_table, valued_report, LeadsToQuick}
-use Rattle.airymore.specs.Run.{Answers, AsksForNoText, Leads}
+use Rattle.std.proofs.Common.{inl, inr, ℕ, arith, refl, IsTrue, List, Option, Some, None}
+use Rattle.airymore.proofs.Words.{ℚ, Tensors, limit, first_without, full_table, is_bound, Entries, looked_up, Said, IsPlain, plain_of, plain_plan, Place, places, brackets_report, first_over, found_report, numbers_report, LeadsToBrackets, LeadsToCurve, LeadsToCurveRelations, curve_report, curve_relations_report, quick_cells, quick_report, quick_table, valued_report, LeadsToQuick}
 use Rattle.airymore.proofs.CurveLemmas.{plain_curve}
 use Rattle.airymore.proofs.CurveRelationLemmas.{plain_curve_relations}
 

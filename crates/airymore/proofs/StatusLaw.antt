@@ -1,15 +1,8 @@
 -- How the reports that the words lead to stand to what they mean.
 use Rattle.std.proofs.Common.{◌≡◌, refl}
-use Rattle.run_reports.proofs.Names.{Run}
+use Rattle.airymore.proofs.Words.{Run, named, plain_range, JudgedOne, judged_by, judged_bound, judged_said, judged_text, judged_word, LeadsToBrackets, brackets_report, LeadsToTextDocument, text_document, LeadsToQuick, quick_report, Leads}
 use Rattle.command_words.specs.Words.{Named, Text}
-use Rattle.airy_json.specs.Reading.{named}
 use Rattle.more_words.specs.MoreWords.{Reading, Curve, CurveRelations, Brackets, Quick, Json, Verify, Refused}
-use Rattle.run_reports.proofs.CauseLemmas.{plain_range}
-use Rattle.run_reports.proofs.JobLemmas.{JudgedOne, judged_by, judged_bound, judged_said, judged_text, judged_word}
-use Rattle.airymore.specs.Brackets.{LeadsToBrackets, brackets_report}
-use Rattle.airymore.specs.Documents.{LeadsToTextDocument, text_document}
-use Rattle.airymore.specs.Quick.{LeadsToQuick, quick_report}
-use Rattle.airymore.specs.Run.{Leads}
 use Rattle.airymore.specs.Laws.{meant, TakesMemory}
 use Rattle.airymore.proofs.DocumentLemmas.{json_said, text_document_said}
 use Rattle.airymore.proofs.VerifyLemmas.{document_stands, no_word, plain_verify}

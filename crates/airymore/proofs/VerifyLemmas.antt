@@ -1,29 +1,19 @@
 -- What `verify` says of the source and of the solutions.
-use Rattle.std.proofs.Common.{◌≡◌, ◌≢◌, ◌⊎◌, inl, inr, ℕ, zero, suc, ◌<◌, ◌≤◌, refl, sym, ap, ap₂, ◌∙◌, subst, arith, length, List, [], ◌∷◌, Option, Some, None, Bool, true, false, cond, nat_lt, nat_le, ◌&&◌, option_and_then, is_some, option_map, Result, Ok, Err}
-use Rattle.run_reports.proofs.Names.{Giving, Taking, Rose, BelowDimLaw, Key, letter_of, Solves, planned, PlanLaw, ℚ, Tensors, SameEntries, Structure, IsSound, IsSolutionOf, Lettered, letter_value, planned_tensors, Family, Entries, looked_up, AreSound, Planning, tensors_of, keys_of, Limit, Within, PassesBound, PassesCells, PassesNeeds, limit, JobUniquenessLaw, series_with, Report, Ends, out_of_memory, EndsBy, Run, structure_of, text_structure, cause_report, read_fault, text_too_long, AnswersBy}
-use Rattle.std.specs.Io.KnownBytes.{Consumes, IsAtEnd}
-use Rattle.airy_math.specs.Jobs.{Text}
+use Rattle.std.proofs.Common.{◌≡◌, ◌≢◌, inl, inr, ℕ, ◌<◌, refl, sym, ap, ◌∙◌, subst, arith, length, List, true, nat_lt, Ok, Err}
 use Rattle.airy_math.specs.declared.Family.TheVariants as family
-use Rattle.airy_math.proofs.BelowDimLaw.{same_back}
-use Rattle.serde_json.specs.Data.{Data, Items, no_items, item}
-use Rattle.amp_plan.specs.declared.cause.PlanCause.{PlanCause}
 use Rattle.amp_plan.specs.declared.cause.PlanCause.TheVariants as plan_cause
-use Rattle.airy_json.specs.Reading.{Kind, named, text, Form, IsPlanOf, AreOfKind, kind_tensors, kind_of, making_over, cell_value, with_value, first_bad, cell_values, Answer, Long, NoJson, BadForm, BadKind, BadBound, Unmade, Unplanned, BadCell, Gives, cells_answer, plan_answer, made_answer, bound_answer, kind_answer, form_of, form_answer, data_answer, json_of, answer_of}
-use Rattle.airy_json.specs.Given.{IsGiven, IsWhole, Passes, Refuses, ReadsDocument, HasCause}
+use Rattle.airy_json.specs.Reading.{Kind, named, text, AreOfKind, kind_tensors, Answer, Long, NoJson, BadForm, BadKind, BadBound, Unmade, Unplanned, BadCell, Gives, answer_of}
+use Rattle.airymore.proofs.Words.{Giving, Taking, BelowDimLaw, Key, letter_of, Solves, planned, PlanLaw, ℚ, Tensors, SameEntries, Structure, IsSound, IsSolutionOf, letter_value, planned_tensors, Entries, looked_up, AreSound, Planning, tensors_of, keys_of, Limit, Within, PassesBound, PassesCells, PassesNeeds, JobUniquenessLaw, series_with, Report, Ends, out_of_memory, Run, structure_of, cause_report, read_fault, text_too_long, AnswersBy, Consumes, verified, SourceAnswers, answers_from_report, entries_self, text_planned, IsPlain, IsOther, plain_other, status_of, structure_of_kind}
+use Rattle.airy_json.specs.Given.{IsGiven, IsWhole, ReadsDocument, HasCause}
 use Rattle.airy_json.specs.declared.reading.Given.{Given}
 use Rattle.airy_json.specs.declared.refusals.JsonErr.{JsonErr}
 use Rattle.airy_json.specs.declared.refusals.JsonErr.TheVariants as json
 use Rattle.airy_json.specs.declared.verify_ends.VerifyEnd.{VerifyEnd}
 use Rattle.airy_json.specs.declared.verify_ends.VerifyEnd.TheVariants.{Solution, Over, Differs}
-use Rattle.airy_json.specs.Verifying.{as_table, verified}
 use Rattle.airy_json.specs.Verified.{AreNoSolution, JobVerified, JobVerifiedLaw, SameVerifiedLaw, job_series, values_series}
-use Rattle.run_reports.proofs.AnswerLemmas.{SourceAnswers, answers_from_report}
-use Rattle.run_reports.proofs.CauseLemmas.{Stands, is_meant, at_fault, is_wanting, Tells}
-use Rattle.run_reports.proofs.StructureLemmas.{entries_self, text_planned}
+use Rattle.run_reports.proofs.CauseLemmas.{Stands, is_meant, at_fault, is_wanting}
 use Rattle.run_reports.proofs.SourceLemmas.{source_or, told_source, ended, no_longer}
-use Rattle.run_reports.proofs.StatusLemmas.{IsPlain, IsOther, plain_other, other_wanting, status_of}
-use Rattle.airymore.specs.Documents.{structure_of_kind, ValuesHeadline}
-use Rattle.airymore.specs.Verify.{verified_report, document_refused, limit_report, answer_report, verify_report, GivesSolution, GivesNoSolution, LeadsToVerified, LeadsFromDocument, failed, wanting, long, whole, EndsOfDocument, error_report}
+use Rattle.airymore.specs.Verify.{verified_report, limit_report, answer_report, verify_report, GivesSolution, GivesNoSolution, LeadsToVerified, LeadsFromDocument, failed, wanting, long, whole, EndsOfDocument, error_report}
 use Rattle.airymore.proofs.DocumentLemmas.{kind_sound, values_headline}
 
 -- ---- statuses
@@ -96,83 +86,6 @@ document_stands run is memory report (whole kept bytes consumed end short led) =
     is_meant (source_or run.source_before.left bytes) (told_source run.source_before.left bytes)
     (is _ report (led.said ∙ ap (λ b. answer_report (answer_of b)) (sym (ended bytes run.source_before.left run.source_after.left consumed end))))
 
--- ---- the values that are given
-
-length-values : (keys : List Key) (ds : Items) → first_bad keys ds ≡ None → length (cell_values keys ds) ≡ length keys
-unfolding first_bad cell_values with_value
-length-values [] no_items e = refl
-length-values [] (item d ds) e = cc
-length-values (key ∷ keys) no_items e = cc
-length-values (key ∷ keys) (item d ds) e = by (cell_value key d) (first_bad keys ds) (length-values keys ds) e
-  where
-    by : (v : Option ℚ) (o : Option ℕ) → (o ≡ None → length (cell_values keys ds) ≡ length keys) → cond (is_some v) (option_map suc o) (Some 0) ≡ None → length (with_value v (cell_values keys ds)) ≡ suc (length keys)
-    by None o h e = cc
-    by (Some v) None h e = ap suc (h refl)
-    by (Some v) (Some p) h e = cc
-
--- the values of an answer are one for each planned key
-abbrev Full : Answer → Type 0
-Full (Gives kind X vs) = (length vs ≡ length (planned (kind_tensors kind X) X)) × (0 < X)
-Full Long = Unit {0}
-Full NoJson = Unit {0}
-Full BadForm = Unit {0}
-Full BadKind = Unit {0}
-Full (BadBound n) = Unit {0}
-Full (Unmade k) = Unit {0}
-Full (Unplanned l) = Unit {0}
-Full (BadCell p) = Unit {0}
-
-cells_full : (kind : Kind) (X : ℕ) (ds : Items) (o : Option ℕ) → 0 < X → first_bad (planned (kind_tensors kind X) X) ds ≡ o → Full (cells_answer kind X (cell_values (planned (kind_tensors kind X) X) ds) o)
-unfolding cells_answer
-cells_full kind X ds None h e = (length-values (planned (kind_tensors kind X) X) ds e, h)
-cells_full kind X ds (Some p) h e = tt
-
-plan_full : (kind : Kind) (X : ℕ) (ds : Items) (l : Limit) → 0 < X → Full (plan_answer kind X ds l)
-unfolding plan_answer
-plan_full kind X ds Within h = cells_full kind X ds (first_bad (planned (kind_tensors kind X) X) ds) h refl
-plan_full kind X ds PassesBound h = tt
-plan_full kind X ds (PassesCells level) h = tt
-plan_full kind X ds (PassesNeeds key) h = tt
-
-made_full : (kind : Kind) (X : ℕ) (ds : Items) (o : Option ℕ) → 0 < X → Full (made_answer kind X ds o)
-unfolding made_answer
-made_full kind X ds (Some k) h = tt
-made_full kind X ds None h = plan_full kind X ds (limit (kind_tensors kind X) X) h
-
-bound_full : (kind : Kind) (X : ℕ) (ds : Items) → Full (bound_answer kind X ds)
-unfolding bound_answer
-bound_full kind X ds = by (nat_le 1 X && nat_le X 24) refl
-  where
-    by : (b : Bool) → (nat_le 1 X && nat_le X 24) ≡ b → Full (cond b (made_answer kind X ds (making_over kind X)) (BadBound X))
-    by true e = made_full kind X ds (making_over kind X) (grind arith)
-    by false e = tt
-
-kind_full : (X : ℕ) (ds : Items) (o : Option Kind) → Full (kind_answer X ds o)
-unfolding kind_answer
-kind_full X ds None = tt
-kind_full X ds (Some kind) = bound_full kind X ds
-
-form_full : (o : Option Form) → Full (form_answer o)
-unfolding form_answer
-form_full None = tt
-form_full (Some form) = kind_full form.bound form.cells (kind_of form.kind)
-
-data_full : (o : Option Data) → Full (data_answer o)
-unfolding data_answer
-data_full None = tt
-data_full (Some d) = form_full (form_of d)
-
-answer_full : (bytes : List ℕ) → Full (answer_of bytes)
-unfolding answer_of
-answer_full bytes = by (nat_lt 16777216 (length bytes))
-  where
-    by : (b : Bool) → Full (cond b Long (data_answer (json_of bytes)))
-    by true = tt
-    by false = data_full (json_of bytes)
-
-pub values_full : (bytes : List ℕ) (kind : Kind) (X : ℕ) (vs : List ℚ) → answer_of bytes ≡ Gives kind X vs → (length vs ≡ length (planned (kind_tensors kind X) X)) × (0 < X)
-values_full bytes kind X vs e = subst Full e (answer_full bytes)
-
 -- ---- the plan that is given
 
 -- the plan's tensors are the kind's, as far as their indices go
@@ -216,22 +129,19 @@ module _ (laws : VerifyLaws) (p : Planning) (vs : List ℚ) (bytes : List ℕ) (
   of_kind : AreOfKind given.kind p.bound p.tensors
   of_kind = given.plan_of.tensors_are
 
-  full : (length vs ≡ length (planned (kind_tensors given.kind p.bound) p.bound)) × (0 < p.bound)
-  full = values_full bytes given.kind p.bound vs given.gives
-
   same_keys : keys_of p ≡ planned (kind_tensors given.kind p.bound) p.bound
   unfolding keys_of tensors_of
   same_keys = (laws.below (looked_up p.tensors) (kind_tensors kind p.bound) (same_entries kind p.bound p.tensors of_kind)).plan p.bound
 
-  pub given_long : length vs ≡ length (keys_of p)
-  given_long = full.0 ∙ sym (ap (λ (ks : List Key). length ks) same_keys)
+  full : length vs ≡ length (planned (kind_tensors given.kind p.bound) p.bound)
+  full = given.one_each ∙ ap (λ (ks : List Key). length ks) same_keys
 
   same_end : verified (tensors_of p) p.bound vs ≡ verified (kind_tensors given.kind p.bound) p.bound vs
   unfolding tensors_of
   same_end = laws.same (looked_up p.tensors) (kind_tensors kind p.bound) (same_entries kind p.bound p.tensors of_kind) p.bound vs
 
   checked : JobVerified (structure_of_kind given.kind) p.bound vs
-  checked = laws.job s p.bound (plan_sound kind p of_kind sound) full.1 vs (full.0 ∙ ap (λ (T : Tensors). length (planned T p.bound)) (kind_planned kind p.bound))
+  checked = laws.job s p.bound (plan_sound kind p of_kind sound) given.some vs (full ∙ ap (λ (T : Tensors). length (planned T p.bound)) (kind_planned kind p.bound))
 
   end_planned : verified (kind_tensors given.kind p.bound) p.bound vs ≡ verified (planned_tensors (structure_of_kind given.kind) p.bound) p.bound vs
   end_planned = ap (λ (T : Tensors). verified T p.bound vs) (kind_planned kind p.bound)
@@ -246,7 +156,7 @@ module _ (laws : VerifyLaws) (p : Planning) (vs : List ℚ) (bytes : List ℕ) (
         bound = p.bound;
         values = vs;
         gives = given.gives;
-        headline = values_headline laws.unique laws.planned s p.bound (plan_sound kind p of_kind sound) full.1 vs is.table
+        headline = values_headline laws.unique laws.planned s p.bound (plan_sound kind p of_kind sound) given.some vs is.table
             (λ m v w. subst (λ t. IsSolutionOf s p.bound m v (series_with (letter_value s v) (planned_tensors s p.bound) p.bound t)) (sym is.table) (checked.solved found m v w));
       }
 

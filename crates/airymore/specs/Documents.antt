@@ -1,5 +1,5 @@
 -- What `json` writes and answers: the JSON document of a structure's table; and what its values say of the solutions.
-use Rattle.std.specs.Prelude.{◌≡◌, ◌≢◌, ◌⊎◌, ℕ, ◌<◌, ◌≤◌, ◌==◌, cond, IsTrue, List, length, get_or}
+use Rattle.std.specs.Prelude.{◌≡◌, ◌≢◌, ◌⊎◌, ℕ, ◌<◌, ◌≤◌, cond, IsTrue, List, length, get_or}
 use Rattle.airy_math.specs.Rational.{ℚ}
 use Rattle.airy_math.specs.RationalLaws.{0ℚ}
 use Rattle.airy_math.specs.Cuts.{letter_of}
@@ -19,7 +19,8 @@ use Rattle.airy_json.specs.Reading.{Kind, named, text, kind_text}
 use Rattle.airy_json.specs.Verifying.{as_table}
 use Rattle.airy_json.specs.Verified.{job_series}
 use Rattle.run_reports.specs.Report.{Report, out_of_memory}
-use Rattle.run_reports.specs.Tables.{cells_report, stored_report}
+use Rattle.run_reports.specs.Forms.{in_place}
+use Rattle.run_reports.specs.Tables.{stored_report}
 use Rattle.run_reports.specs.StructureTables.{structure_of, table_report}
 use Rattle.run_reports.specs.Structures.{text_structure, has_letter, AreClosed, IsOwn}
 use Rattle.run_reports.specs.Relations.{of_relations}
@@ -29,10 +30,6 @@ use Rattle.run_reports.specs.Headline.{ShowsNumber, HasTwoOrders}
 unfoldable pub structure_of_kind : Kind → Structure
 structure_of_kind (named family) = structure_of family
 structure_of_kind (text t) = text_structure t
-
--- a report, with other bytes in the place of those of status 0
-unfoldable pub in_place : List ℕ → Report → Report
-in_place bytes report = cond (report.status == 0) (record { status = 0; bytes = bytes }) report
 
 -- the document of the table of T up to X, of the kind with this text
 unfoldable pub table_document : List ℕ → Tensors → ℕ → List ℕ
@@ -87,10 +84,10 @@ pub record LeadsToTextDocument (X : ℕ) (t : Entries) (report : Report) : Type 
 
 -- ---- what the code's parts write
 
--- the document of stored tensors up to X, and of a plan, of the kind with this text
+-- the document of stored tensors up to X, of the kind with this text
 unfoldable pub stored_document : List ℕ → Entries → ℕ → Report
 stored_document kind t X = in_place (table_document kind (looked_up t) X) (stored_report t X)
 
-unfoldable pub plan_document : List ℕ → Planning → Report
-plan_document kind p =
-    in_place (table_document kind (plans.tensors_of p) p.bound) (cells_report p.tensors.letter (plans.tensors_of p) p.bound)
+-- that of the table of a plan
+abbrev pub plan_document : List ℕ → Planning → List ℕ
+plan_document kind p = table_document kind (plans.tensors_of p) p.bound

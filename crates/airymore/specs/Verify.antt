@@ -16,7 +16,7 @@ use Rattle.airy_json.specs.declared.refusals.JsonErr.{JsonErr}
 use Rattle.airy_json.specs.declared.refusals.JsonErr.TheVariants as json
 use Rattle.airy_json.specs.declared.verify_ends.VerifyEnd.{VerifyEnd}
 use Rattle.airy_json.specs.declared.verify_ends.VerifyEnd.TheVariants.{Solution, Over, Differs}
-use Rattle.run_reports.specs.Report.{Report, Ends, refusal, bound_refused, out_of_memory}
+use Rattle.run_reports.specs.Report.{Report, refusal, bound_refused, out_of_memory}
 use Rattle.run_reports.specs.Ends.{EndsBy}
 use Rattle.run_reports.specs.Tables.{cause_report, over_at, pivot_text}
 use Rattle.run_reports.specs.Texts.{read_fault, text_too_long}
@@ -81,8 +81,8 @@ pub record GivesNoSolution (answer : Answer) (bytes : List ℕ) : Type 0 where
   pub given : ℚ
   pub named : bytes ≡ (verified_report (Differs key pivot sum given)).bytes
   pub found : verified (kind_tensors kind bound) bound values ≡ Differs key pivot sum given
-  -- the values' series solves the structure's constraints at no dim, and with no fraction but 0 in the place of the letter; nor with 0 where
-  -- the key has no letter
+  -- the values' series solves the structure's constraints at no dim, and with no fraction but 0 in the place of the letter; nor with 0
+  -- where the key has no letter
   pub nowhere : AreNoSolution (structure_of_kind kind) bound (letter_of (kind_tensors kind bound).shape key) values
   -- nor does it solve the plan's own tensors
   pub planned_too : Solves (kind_tensors kind bound) bound (values_series (kind_tensors kind bound) bound values) → ⊥

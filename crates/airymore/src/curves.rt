@@ -4,7 +4,7 @@ ghost use Rattle.run_reports.specs.Report.{Ends};
 ghost use Rattle.run_reports.specs.Ends.{EndsBy};
 ghost use Rattle.airymore.specs.Curves.{LeadsToCurve, LeadsToCurveRelations, curve_error};
 
-use airy_curve::{CurveErr, curve, curve_cut, curve_relations, curve_shape};
+use airy_curve::{CurveErr, curve, curve_cut};
 use airy_io::Sink;
 use airy_math::{below_dim, planned_once};
 use airy_relations::{no_difference, same_verdict};
@@ -12,7 +12,8 @@ use command_words::is_bound;
 use curve_law::curve_tables;
 use fill_crew::Gate;
 use frac128::Frac;
-use run_reports::{Form, print_stored, refuse_bound, refuse_memory, refuse_number, say_relations};
+use relation_law::{curve_relations, curve_shape};
+use run_reports::{print_stored, refuse_bound, refuse_memory, refuse_number, say_relations};
 use series_law::same_tables;
 use std::alloc::Global;
 use std::thread::Threads;
@@ -39,18 +40,7 @@ pub(crate) fn table_of_curve<R: Threads + Sync, W: Sink, G: Gate + Sync>(
     same_tables();
     curve_tables();
     match curve(alloc, bound as u8, u) {
-        Ok(tensors) => {
-            print_stored(
-                rt,
-                alloc,
-                tensors,
-                bound as u8,
-                Form::Rows,
-                workers,
-                gate,
-                out,
-            )
-        }
+        Ok(tensors) => print_stored(rt, alloc, tensors, bound as u8, workers, gate, out),
         Err(refusal) => refuse_curve(out, refusal),
     }
 }

@@ -1,13 +1,13 @@
 -- What a large structure's stored tensors lead to is what is meant by its seed and dim.
 use Rattle.std.proofs.Common.{◌≡◌, ◌≢◌, ◌⊎◌, inl, inr, ℕ, zero, suc, ◌-◌, refl, sym, ap, ap₂, ◌∙◌, subst, arith, length, List, ◌++◌, Bool, true, false, cond, IsTrue, nat_eq, codes, decimal, Option, Some}
-use Rattle.run_reports.proofs.Names.{Key, total, Shape, Close, PlanLaw, BelowDimLaw, Tensors, SameEntries, IsSound, planned_tensors, Verdict, Closed, Differs, Over, verdict, SameVerdictLaw, Outcome, NoOrdersLaw, SameTablesLaw, Entries, looked_up, Taking, Report, Ends, EndsOrWants, bound_refused, out_of_memory, refusal, EndsBy, IsVerdict, closed, relations_report, stored_report, ArePlanned, is_bound, making_over, table_report, has_letter, count_text, formed_stored, last_of, summary_text, summed}
+use Rattle.run_reports.proofs.Names.{Key, total, Shape, Close, PlanLaw, BelowDimLaw, Tensors, SameEntries, IsSound, planned_tensors, Verdict, Closed, Differs, Over, verdict, SameVerdictLaw, Outcome, NoOrdersLaw, SameTablesLaw, Entries, looked_up, Taking, Report, Ends, EndsOrWants, bound_refused, out_of_memory, refusal, EndsBy, IsVerdict, closed, relations_report, stored_report, ArePlanned, is_bound, making_over, table_report, has_letter, count_text, formed_stored, last_of, summary_text, summed, in_place, plan_summary, tensors_of}
 use Rattle.airy_math.specs.Jobs.{Bulk}
 use Rattle.bulk_tensors.specs.Bulk.{after, bulk, bulk_refusal, diagonal, NamesStep, StandsForBulk}
 use Rattle.bulk_tensors.specs.Change.{changed, gains}
 use Rattle.bulk_tensors.specs.declared.full_tensors.BulkErr.{BulkErr}
 use Rattle.bulk_tensors.specs.declared.full_tensors.BulkErr.TheVariants as error
 use Rattle.std.proofs.Math.Nat.{le_refl}
-use Rattle.run_reports.specs.declared.tables.Form.TheVariants.{Summary}
+use Rattle.run_reports.proofs.FormLemmas.{place_status}
 use Rattle.airyrun.specs.Bulks.{LeadsToBulk, bulk_error, bulk_report, changes_report, closed_summary}
 use Rattle.run_reports.proofs.HeadlineLemmas.{JobLaws}
 use Rattle.run_reports.proofs.TableHeadline.{whole_of}
@@ -40,12 +40,6 @@ bulk_dim : (seed dim : ℕ) → (bulk seed dim).dim ≡ dim
 unfolding bulk
 bulk_dim seed dim = after_dim seed dim (dim - 1)
 
-abbrev with_bytes : Report → List ℕ → Report
-with_bytes r xs = record { status = r.status; bytes = cond (nat_eq r.status 0) xs r.bytes }
-
-same_with : {r s : Report} {xs ys : List ℕ} → r ≡ s → xs ≡ ys → with_bytes r xs ≡ with_bytes s ys
-same_with a b = cc
-
 module _ (laws : BulkLaws) (seed dim X : ℕ) (t : Entries) (stands : StandsForBulk seed dim t) (bounded : is_bound X ≡ true) where
   planned_bulk : ArePlanned t (Bulk (bulk seed dim)) X
   unfolding planned_tensors has_letter
@@ -55,10 +49,10 @@ module _ (laws : BulkLaws) (seed dim X : ℕ) (t : Entries) (stands : StandsForB
   unfolding making_over
   stored_is = sym (stood_report (Bulk (bulk seed dim)) t X laws.jobs.planned laws.below laws.tables bounded refl planned_bulk)
 
-  summed_is : summed t.letter (looked_up t) X (stored_report t X) ≡ summed false (bulk seed dim) X (table_report (Bulk (bulk seed dim)) X)
-  unfolding summed
+  summed_is : formed_stored plan_summary t X ≡ summed false (bulk seed dim) X (table_report (Bulk (bulk seed dim)) X)
+  unfolding tensors_of
   summed_is =
-      same_with stored_is (ap (λ l. summary_text l (looked_up t) X) stands.letter ∙ same_summary t (bulk seed dim) false X laws.jobs.planned laws.below laws.tables stands.entries)
+      ap₂ in_place (ap (λ l. summary_text l (looked_up t) X) stands.letter ∙ same_summary t (bulk seed dim) false X laws.jobs.planned laws.below laws.tables stands.entries) stored_is
 
   found_is : verdict (looked_up t) t.dim ≡ verdict (bulk seed dim) dim
   unfolding looked_up
@@ -122,11 +116,11 @@ module _ (laws : BulkLaws) (seed dim X : ℕ) (t : Entries) (stands : StandsForB
       (((laws.below (looked_up t) (bulk seed dim) stands.entries).relations t.dim (le_refl t.dim)).0 h)
 
   said_whole : LeadsToBulk seed dim X (bulk_report seed dim X)
-  unfolding summed planned_tensors IsSound
+  unfolding planned_tensors IsSound
   said_whole = record {
     said = inl refl;
     headline = λ e.
-        (whole_of laws.jobs (Bulk (bulk seed dim)) X stands.sound (behind_relations (verdict (bulk seed dim) dim) _ (sym (ap (λ (r : Report). r.status) report_is) ∙ e)).1).1;
+        (whole_of laws.jobs (Bulk (bulk seed dim)) X stands.sound (sym (place_status _ _) ∙ (behind_relations (verdict (bulk seed dim) dim) _ (sym (ap (λ (r : Report). r.status) report_is) ∙ e)).1)).1;
     accepted = λ e.
         let closed = (behind_relations (verdict (bulk seed dim) dim) _ (sym (ap (λ (r : Report). r.status) report_is) ∙ e)).0 in
         close_is (tells.holds (found_is laws seed dim X t stands bounded ∙ closed));
@@ -134,7 +128,7 @@ module _ (laws : BulkLaws) (seed dim X : ℕ) (t : Entries) (stands : StandsForB
         let behind = seven_behind (verdict (bulk seed dim) dim) _ (sym (ap (λ (r : Report). r.status) report_is) ∙ e) in
         let close = close_is (tells.holds (found_is laws seed dim X t stands bounded ∙ behind.0)) in
         let orders = laws.orders (bulk seed dim) stands.sound.0 stands.sound.1 (subst (Close (bulk seed dim)) (sym (bulk_dim seed dim)) close) X in
-        table_never (Bulk (bulk seed dim)) X orders behind.1;
+        table_never (Bulk (bulk seed dim)) X orders (sym (place_status _ _) ∙ behind.1);
   }
 
   pub bulk_ends : (before now : Taking) (result : ℕ) → EndsOrWants (closed_summary t X) before now result → EndsBy (LeadsToBulk seed dim X) before now result
@@ -156,7 +150,7 @@ other_next Closed next other fails = absurd (fails refl)
 other_next (Differs rel place left right) next other fails = refl
 other_next (Over rel place) next other fails = refl
 
-pub summary_ends : (t : Entries) (X : ℕ) (before now : Taking) (result : ℕ) → Closed ≡ verdict (looked_up t) t.dim → EndsOrWants (formed_stored Summary t X) before now result
+pub summary_ends : (t : Entries) (X : ℕ) (before now : Taking) (result : ℕ) → Closed ≡ verdict (looked_up t) t.dim → EndsOrWants (formed_stored plan_summary t X) before now result
     → EndsOrWants (closed_summary t X) before now result
 unfolding closed_summary relations_report
 summary_ends t X before now result found h = rw (← found) h
@@ -164,4 +158,4 @@ summary_ends t X before now result found h = rw (← found) h
 pub fails_summary : (t : Entries) (X : ℕ) (v : Verdict) (before now : Taking) (result : ℕ) → v ≡ verdict (looked_up t) t.dim → (v ≡ Closed → ⊥) → Ends (relations_report v closed) before now result
     → EndsOrWants (closed_summary t X) before now result
 unfolding closed_summary
-fails_summary t X v before now result found fails h = inl (subst (λ r. Ends r before now result) (other_next v closed (formed_stored Summary t X) fails ∙ ap (λ w. relations_report w (formed_stored Summary t X)) found) h)
+fails_summary t X v before now result found fails h = inl (subst (λ r. Ends r before now result) (other_next v closed (formed_stored plan_summary t X) fails ∙ ap (λ w. relations_report w (formed_stored plan_summary t X)) found) h)

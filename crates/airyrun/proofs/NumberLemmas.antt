@@ -22,13 +22,9 @@ use Rattle.airyrun.specs.Numbers.{IsNumber, IsQuotient, LeadsToNumber, MeetsEqua
 use Rattle.run_reports.proofs.TableHeadline.{family_sound}
 use Rattle.airyrun.specs.Valued.{IsValued, Refuses}
 use Rattle.airyrun.proofs.ValuedLemmas.{cell_there}
+use Rattle.correlators.proofs.TermLemmas.{below_all}
 
 -- ---- the indices of a covered key up to X are below the table's dim
-
-small_list : (m : ℕ) (l : List ℕ) → total l < m → are_below m l ≡ true
-unfolding total are_below
-small_list m [] h = refl
-small_list m (y ∷ l) h = rw (let e : ltb y m ≡ true = grind arith in e) (small_list m l (omega arith))
 
 live_of : (s : Shape) (key : Key) → IsKey key.g key.idx → covers s key ≡ true → live s key ≡ true
 unfolding live Rattle.airy_math.specs.Keys.stable
@@ -36,11 +32,11 @@ live_of s key k e = rw e (let h = k.stable in grind arith)
 
 small_wk : (s : Shape) → LikeWk s → (X : ℕ) (key : Key) → 0 < X → live s key ≡ true → 0 < length key.idx → euler_of key ≤ X → are_below (suc (top_wk X)) key.idx ≡ true
 unfolding LikeWk top_wk euler key_of
-small_wk s like X key x u some h = small_list (suc (X - 1 + (X + 1) / 2)) key.idx (omega (arith, like key.g key.idx u))
+small_wk s like X key x u some h = below_all (suc (X - 1 + (X + 1) / 2)) key.idx (omega (arith, like key.g key.idx u))
 
 small_bgw : (s : Shape) → LikeBgw s → (X : ℕ) (key : Key) → 0 < X → live s key ≡ true → 0 < length key.idx → euler_of key ≤ X → are_below (suc (top_bgw X)) key.idx ≡ true
 unfolding LikeBgw top_bgw euler key_of
-small_bgw s like X key x u some h = small_list (suc ((X + 1) / 2 - 1)) key.idx (omega (arith, like key.g key.idx u))
+small_bgw s like X key x u some h = below_all (suc ((X + 1) / 2 - 1)) key.idx (omega (arith, like key.g key.idx u))
 
 pub family_small : (f : Family) (X : ℕ) (key : Key) → 0 < X → IsKey key.g key.idx → euler_of key ≤ X → covers (planned_tensors (structure_of f) X).shape key ≡ true
     → are_below (planned_tensors (structure_of f) X).dim key.idx ≡ true

@@ -1,6 +1,6 @@
 -- The statuses of the reports that a job leads to where no end fails and memory is not wanting.
 use Rattle.std.proofs.Common.{◌≡◌, inl, inr, ℕ, min, arith, refl, ap, ◌∙◌, [], ◌∷◌, Option, Some, None, Bool, true, false, cond, List, nat_le}
-use Rattle.run_reports.proofs.Names.{Tensors, planned, Structure, planned_tensors, Limit, Within, PassesBound, PassesCells, PassesNeeds, limit, full_table, first_without, Entries, looked_up, Verdict, verdict, Report, bound_refused, making_report, checked_report, verdict_of, plan_report, cells_report, is_bound, making_over, table_report, has_letter, relations_report, text_relations, closed, Line, summed, Key, euler, ℚ, Family}
+use Rattle.run_reports.proofs.Names.{Tensors, planned, Structure, planned_tensors, Limit, Within, PassesBound, PassesCells, PassesNeeds, limit, full_table, first_without, Entries, looked_up, Verdict, verdict, Report, bound_refused, making_report, checked_report, verdict_of, plan_report, cells_report, is_bound, making_over, table_report, has_letter, relations_report, text_relations, closed, Line, summary_text, Key, euler, ℚ, Family}
 use Rattle.airy_math.specs.Jobs.{Wp, Bulk}
 use Rattle.series_law.specs.Check as check
 use Rattle.ask_seats.specs.Replies.{Reply, lines_text}
@@ -12,6 +12,7 @@ use Rattle.airyrun.specs.Numbers.{first_report, valued_report, quotient, quotien
 use Rattle.airyrun.specs.Bulks.{changes_report, bulk_report}
 use Rattle.correlators.specs.Volumes.{Part, counted}
 use Rattle.bulk_tensors.specs.Bulk.{bulk, bulk_refusal}
+use Rattle.run_reports.proofs.FormLemmas.{plain_place}
 use Rattle.run_reports.proofs.StatusLemmas.{IsPlain, plain_table, plain_closed, plain_relations, plain_making, plain_bound, plain_plan}
 
 -- that of each session, whatever its replies
@@ -72,12 +73,8 @@ unfolding changes_report
 plain_changes None next h = h
 plain_changes (Some q) next h = record { is = inr (omega arith, omega arith) }
 
-plain_summed : (letter : Bool) (T : Tensors) (X : ℕ) (report : Report) → IsPlain report → IsPlain (summed letter T X report)
-unfolding summed
-plain_summed letter T X report h = record { is = h.is }
-
 pub plain_bulk : (seed dim X : ℕ) → IsPlain (bulk_report seed dim X)
 unfolding bulk_report
 plain_bulk seed dim X =
     let T = bulk seed dim in
-    plain_bound X _ (plain_changes (bulk_refusal seed dim) _ (plain_relations (verdict T dim) _ (plain_summed false T X _ (plain_table (Bulk T) X))))
+    plain_bound X _ (plain_changes (bulk_refusal seed dim) _ (plain_relations (verdict T dim) _ (plain_place (summary_text false T X) _ (plain_table (Bulk T) X))))

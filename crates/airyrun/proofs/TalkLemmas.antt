@@ -17,6 +17,7 @@ use Rattle.run_reports.proofs.ReportLemmas.{not_whole, told_cause}
 use Rattle.run_reports.proofs.StoredLemmas.{same_limit}
 use Rattle.session_law.proofs.SessionLemmas.{SessionLaws, bounded, same_replies, session-bound, session-stood, shown_law}
 use Rattle.run_reports.proofs.TextLemmas.{own_of, fails_by}
+use Rattle.std.proofs.KnownBytes.{Appends-nil}
 
 module _ (s : Session) (X : ℕ) (lines : List Line) (before now : Taking) where
   pub spoken-ends : Spoken s X lines before.taken now.taken → now.faults ≡ before.faults → EndsReplies s X lines answered before now 0
@@ -58,10 +59,6 @@ module _ (s : Session) (X : ℕ) (lines : List Line) (before now : Taking) where
 
 -- ---- a report behind a part of a run that wrote nothing
 
-appends-self : (t : Option (List ℕ)) → Appends t t []
-appends-self None = tt
-appends-self (Some xs) = sym (append-nil xs)
-
 appends-after : (old mid new : Option (List ℕ)) (bytes : List ℕ) → Appends old mid [] → Appends mid new bytes → Appends old new bytes
 appends-after None mid new bytes a b = tt
 appends-after (Some xs) None new bytes a b = absurd a
@@ -78,7 +75,7 @@ ends-after report old mid now result none steady e = record {
 -- where memory was wanting before any line, nothing was written
 none-written : (s : Session) (X : ℕ) (lines : List Line) (old new : Taking) → Fails s X lines old new (err.NoMemory 0) → Appends old.taken new.taken [] × (new.faults ≡ old.faults)
 unfolding lines_text
-none-written s X lines old new (inl h) = (subst (λ (t : Taking). Appends old.taken t.taken []) (sym h.0) (appends-self old.taken), ap (λ (t : Taking). t.faults) h.0)
+none-written s X lines old new (inl h) = (subst (λ (t : Taking). Appends old.taken t.taken []) (sym h.0) (Appends-nil old.taken), ap (λ (t : Taking). t.faults) h.0)
 none-written s X lines old new (inr h) = (by h.replies h.written h.many, h.steady)
   where
     by : (replies : List Reply) → Appends old.taken new.taken (lines_text replies) → 0 ≡ length replies → Appends old.taken new.taken []

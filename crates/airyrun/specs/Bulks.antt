@@ -11,8 +11,7 @@ use Rattle.run_reports.specs.Relations.{relations_report}
 use Rattle.run_reports.specs.StructureTables.{is_bound, table_report}
 use Rattle.run_reports.specs.Structures.{whole_table}
 use Rattle.sparse_tensor.specs.Entries.{Entries, looked_up}
-use Rattle.run_reports.specs.Forms.{summed, formed_stored}
-use Rattle.run_reports.specs.declared.tables.Form.TheVariants.{Summary}
+use Rattle.run_reports.specs.Forms.{summed, formed_stored, plan_summary}
 use Rattle.run_reports.specs.Headline.{Headline}
 
 -- the structure of a seed and a dim
@@ -40,7 +39,7 @@ bulk_error error.NoMemory = out_of_memory
 
 -- what stored tensors lead to: the refusal of their relations, or the summary of their table
 unfoldable pub closed_summary : Entries → ℕ → Report
-closed_summary t X = relations_report (verdict (looked_up t) t.dim) (formed_stored Summary t X)
+closed_summary t X = relations_report (verdict (looked_up t) t.dim) (formed_stored plan_summary t X)
 
 -- What `bulk` leads to: its report, or, at a bound within its limits, want of memory. Where the summary is printed the relations hold, and
 -- the table that it is of has the headline. Where they hold, no two index orders differ: so it never answers 7.

@@ -1,3 +1,4 @@
+-- For private functions and for proofs: no public contract rests on this file.
 -- The table that a number or a volume is read off: that of a structure, in which each key has a Value.
 use Rattle.std.specs.Prelude.{◌≡◌, ◌≢◌, ◌⊎◌, ℕ, List, Option, None}
 use Rattle.airy_math.specs.Planned.{planned}

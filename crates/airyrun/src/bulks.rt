@@ -12,7 +12,7 @@ use airy_relations::{Verdict, check, same_verdict};
 use bulk_tensors::{BulkErr, bulk_tensors};
 use command_words::is_bound;
 use fill_crew::Gate;
-use run_reports::{Form, print_stored, refuse_bound, refuse_memory, refuse_number, say_verdict};
+use run_reports::{Summary, print_formed, refuse_bound, refuse_memory, refuse_number, say_verdict};
 use series_law::{job_checked, job_uniqueness, same_tables};
 use sparse_tensor::Tensors;
 use std::alloc::Global;
@@ -80,9 +80,7 @@ fn print_bulk<R: Threads + Sync, W: Sink, G: Gate + Sync>(
 {
     tensors.soundness_fact();
     match check(&tensors, tensors.dim()) {
-        Verdict::Closed => {
-            print_stored(rt, alloc, tensors, bound, Form::Summary, workers, gate, out)
-        }
+        Verdict::Closed => print_formed(rt, alloc, tensors, bound, &Summary, workers, gate, out),
         fails => say_verdict(&fails, out),
     }
 }

@@ -16,7 +16,7 @@ use airy_relations::same_verdict;
 use command_words::is_bound;
 use fill_crew::Gate;
 use named_families::{MakeErr, bgw_closes, bgw_cut, wk_closes, wk_cut, wp_closes, wp_cut};
-use run_reports::{Form, print_stored, refuse_bound, refuse_making, say_relations, tensors_of};
+use run_reports::{print_stored, refuse_bound, refuse_making, say_relations, tensors_of};
 use series_law::same_tables;
 use sparse_tensor::Tensors;
 use std::alloc::Global;
@@ -62,7 +62,7 @@ fn made_table<R: Threads + Sync, W: Sink, G: Gate + Sync>(
     below_dim();
     same_tables();
     match tensors_of(alloc, family, bound) {
-        Ok(tensors) => print_stored(rt, alloc, tensors, bound, Form::Rows, workers, gate, out),
+        Ok(tensors) => print_stored(rt, alloc, tensors, bound, workers, gate, out),
         Err(refusal) => refuse_making(out, refusal),
     }
 }

@@ -15,8 +15,7 @@ use airy_relations::{Verdict, check};
 use command_words::{Left, greatest_bound};
 use fill_crew::Gate;
 use run_reports::{
-    Form, print_stored, read_bounded, refuse_bound, refuse_input, refuse_text, say_relations,
-    say_verdict,
+    print_stored, read_bounded, refuse_bound, refuse_input, refuse_text, say_relations, say_verdict,
 };
 use series_law::{job_checked, job_session, job_uniqueness, same_tables, widened_relations};
 use sparse_tensor::Tensors;
@@ -151,7 +150,7 @@ fn print_text<R: Threads + Sync, W: Sink, G: Gate + Sync>(
     planned_once();
     own_tensors();
     tensors.soundness_fact();
-    print_stored(rt, alloc, tensors, bound, Form::Rows, workers, gate, out)
+    print_stored(rt, alloc, tensors, bound, workers, gate, out)
 }
 
 /// Prints the table of a text's tensors, or where their relations fail first.
@@ -176,7 +175,7 @@ fn print_closed<R: Threads + Sync, W: Sink, G: Gate + Sync>(
     widened_relations();
     tensors.soundness_fact();
     match check(&tensors, tensors.dim()) {
-        Verdict::Closed => print_stored(rt, alloc, tensors, bound, Form::Rows, workers, gate, out),
+        Verdict::Closed => print_stored(rt, alloc, tensors, bound, workers, gate, out),
         fails => say_verdict(&fails, out),
     }
 }

@@ -3,17 +3,19 @@ use Rattle.std.proofs.Common.{Option, ◌≡◌, ℕ, suc, ◌-◌, ◌<◌, ◌
 use Rattle.amp_plan.proofs.Words.{AllByRecursion, ints, pow-le-pow_right, total, key_of, insert, Split, splits, each, all_splits, whole_length, splits_law, looked_up, from_first, first-within, Planning, tensors_of, RankedTerm, Twice, NameAllowed, Takes, HasRoom, split_part, IsMeasured, choice_part, IsShare, FitsShare, IsChosen, CanGoOn, chain, listed_of, numbers_of, all_listed, Share, Listed, false≢true}
 use Rattle.std.proofs.lemmas.List.{length-map}
 use Rattle.airy_math.specs.Rational.{whole}
-use Rattle.amp_plan.specs.Measures.{excess, gain, loss}
-use Rattle.amp_plan.specs.Shares.{listed}
-use Rattle.amp_plan.specs.SplitLists.{chosen_of, is_passed, first_with, MeetsAt}
-use Rattle.amp_plan.proofs.WalkLemmas.{each-append, takes-same, taken-all, taken-more, allowed-next, allowed-same, HasTaken}
+use Rattle.index_lists.specs.Measures.{excess, gain, loss}
+use Rattle.index_lists.specs.Parts.{listed}
+use Rattle.index_lists.specs.SplitLists.{chosen_of, is_passed, first_with, MeetsAt}
+use Rattle.airy_math.proofs.EachLemmas.{each-append}
+use Rattle.amp_plan.proofs.WalkLemmas.{takes-same, taken-all, taken-more, allowed-next, allowed-same, HasTaken}
 use Rattle.amp_plan.proofs.SplitWalkLemmas.{total_at}
-use Rattle.amp_plan.proofs.ChoiceLemmas.{all-left, all-right, all-both, each-none, behind-end, choices-end}
-use Rattle.amp_plan.proofs.MeasureLemmas.{bytes_below}
+use Rattle.index_lists.proofs.SplitLemmas.{all-left, all-right, all-both, each-none, behind-end}
+use Rattle.amp_plan.proofs.ChoiceLemmas.{choices-end}
+use Rattle.index_lists.proofs.MeasureLemmas.{bytes_below}
 use Rattle.amp_plan.proofs.ReachLemmas.{no_ranks, live_within}
-use Rattle.amp_plan.proofs.RestLemmas.{all-standing}
+use Rattle.index_lists.proofs.RestLemmas.{all-standing}
 use Rattle.amp_plan.proofs.StartLemmas.{all_fit}
-use Rattle.amp_plan.proofs.SplitListLemmas.{listed-append}
+use Rattle.index_lists.proofs.SplitListLemmas.{listed-append}
 
 -- ---- the splits that are met
 
@@ -129,7 +131,7 @@ module _ {W S : Type 0} {allows : W → ℕ → Type 0} {state : W → S} {step 
   taken-skip before {all} {rest} {ahead} {a} {b} e none h = record {
     before = h.before ++ before;
     parts = append_assoc h.before before rest ∙ ap (λ xs. h.before ++ xs) e ∙ h.parts;
-    takes = takes-same (sym (each-append f h.before before ∙ ap (λ ts. each h.before f ++ ts) (each-none f before none) ∙ append-nil (each h.before f))) h.takes;
+    takes = takes-same (sym (each-append h.before before f ∙ ap (λ ts. each h.before f ++ ts) (each-none f before none) ∙ append-nil (each h.before f))) h.takes;
   }
 
 -- A visitor that took what all splits make but those ahead; it is known how many there are from the first one of them that is met on.

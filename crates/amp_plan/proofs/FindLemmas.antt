@@ -3,7 +3,7 @@ use Rattle.std.proofs.Common.{◌≡◌, ℕ, ◌+◌, ◌*◌, ◌<◌, ◌≤�
 use Rattle.amp_plan.proofs.Words.{unsigned_abs, and_from, Key, key_of, insert, euler, stable, covers, live, per_n, IsPlanned, ListsPlanned, place_of, looked_up, code_of_genus, list_code-small, list_code-more, list_code-none, index_code-small, Measure, Planning, tensors_of, keys_of, rank_at, covers_excess, IsMeasured, IsLight, IsCandidate, HasRoom, live_rank, length-insert}
 use Rattle.key_index.specs.Codes.{code_of}
 use Rattle.key_index.specs.Found.{IsRankOf}
-use Rattle.amp_plan.proofs.MeasureLemmas.{covers-excess, bytes_below, measured-append, measured-insert, measured-light}
+use Rattle.index_lists.proofs.MeasureLemmas.{covers-excess, bytes_below, measured-append, measured-insert, measured-light}
 use Rattle.amp_plan.proofs.RankWalkLemmas.{sorted-insert}
 
 module _ (p : Planning) (g : ℕ) (m : Measure) (key : Key) (h : IsCandidate p g m key) where

@@ -10,7 +10,7 @@ use Rattle.airy_math.proofs.KeyLemmas.{append-nil}
 use Rattle.amp_plan.specs.Plans as plans
 use Rattle.amp_plan.specs.Kept.{AreKnown}
 use Rattle.amp_plan.specs.Needs.{KeepsRanks}
-use Rattle.amp_plan.proofs.LevelLemmas.{planned-levels}
+use Rattle.index_lists.proofs.LevelLemmas.{planned-levels}
 use Rattle.amp_plan.proofs.RowLemmas.{keep-below_more}
 use Rattle.amp_plan.proofs.NeedLemmas.{named_small}
 use Rattle.amp_plan.proofs.GraphLemmas.{keep-row, has-below, has-beyond}

@@ -1,7 +1,3 @@
-pub mod ListingLemmas
-pub mod KeyLemmas
-pub mod WindowLemmas
-pub mod LevelLemmas
 pub mod SearchLemmas
 pub mod LimitLemmas
 pub mod SameLimits
@@ -9,7 +5,6 @@ pub mod PlanLemmas
 pub mod PlaceLemmas
 pub mod RowLemmas
 pub mod FillLemmas
-pub mod ListWalkLemmas
 pub mod RankWalkLemmas
 pub mod WalkLemmas
 pub mod SplitWalkLemmas
@@ -19,14 +14,11 @@ pub mod NeedLemmas
 pub mod GraphLemmas
 pub mod GrowLemmas
 pub mod NeedsFacts
-pub mod MeasureLemmas
 pub mod ChoiceLemmas
 pub mod ReachLemmas
 pub mod FindLemmas
 pub mod StageLemmas
-pub mod RestLemmas
 pub mod StartLemmas
-pub mod SplitListLemmas
 pub mod ChainWalkLemmas
 pub mod TestLemmas
 pub mod Words

@@ -5,7 +5,7 @@ use Rattle.airy_math.specs.Sums.{below}
 use Rattle.airy_math.specs.Ranks.{key_at}
 use Rattle.airy_math.proofs.PlannedLaw.{listed, level}
 use Rattle.amp_plan.specs.Limits.{Within, past}
-use Rattle.amp_plan.proofs.LevelLemmas.{each-next}
+use Rattle.index_lists.proofs.LevelLemmas.{each-next}
 
 -- ---- a key's place among the levels
 
@@ -35,7 +35,7 @@ pub limit-bound : (p : Planning) → (leb 1 p.bound && leb p.bound 24) ≡ false
 unfolding limit_of limit
 limit-bound p e = rw e refl
 
-range_fact : (X : ℕ) → 0 < X → X ≤ 24 → (leb 1 X && leb X 24) ≡ true
+pub range_fact : (X : ℕ) → 0 < X → X ≤ 24 → (leb 1 X && leb X 24) ≡ true
 range_fact X p q = grind arith
 
 limit-small : (p : Planning) → 0 < p.bound → p.bound ≤ 24 → length (keys_of p) ≤ 200000 → limit_of p ≡ past (keys_of p) (first_past 4000000 (need_counts (tensors_of p) p.bound))

@@ -11,13 +11,7 @@ use Rattle.airy_math.specs.Terms.{if_so, b_terms, joined_terms, product_terms, c
 use Rattle.airy_math.proofs.PivotLaw.{terms-other}
 use Rattle.amp_plan.proofs.RankWalkLemmas.{sorted-remove}
 use Rattle.airy_math.proofs.EachLemmas.{each-cong}
-
--- ---- lists
-
-pub map-each : {A B C : Type 0} (h : B → C) (f : A → List B) (xs : List A) → map h (each xs f) ≡ each xs (λ x. map h (f x))
-unfolding each
-map-each h f [] = refl
-map-each h f (x ∷ xs) = map-append h (f x) (each xs f) ∙ ap (λ l. map h (f x) ++ l) (map-each h f xs)
+use Rattle.airy_math.proofs.KeyLemmas.{map-each}
 
 mapped : {A B C : Type 0} (h : B → C) (f : A → List B) (k : A → List C) (xs : List A) → ((x : A) → map h (f x) ≡ k x) → map h (each xs f) ≡ each xs k
 mapped h f k xs e = map-each h f xs ∙ each-cong (λ x. map h (f x)) k xs e

@@ -1,9 +1,10 @@
 -- The rank of a live key, found by making the key and looking it up.
 use Rattle.std.proofs.Common.{◌≡◌, ℕ, suc, zero, ◌-◌, ◌<◌, ◌≤◌, Bool, true, false, List, [], ◌∷◌, ◌++◌, length, map, get_or, refl, sym, ap, subst, ◌∙◌, arith, Option, Some, None, Result, Ok, Err, cond, nat_lt, nat_eq, lt-ltb, le-ltb}
-use Rattle.amp_plan.proofs.Words.{and_from, Key, key_of, euler, stable, insert, remove, ordered, ordered_with, IsSortedFrom, covers, live, Ascending, AllBelow, ascending, Each-keep, KeyErr, NoPlace, TooMany, Unstable, ℚ, each, Tensors, row_b, row_c, Each, Each-map, Each-each, Each-below, looked_up, Planning, tensors_of, rank_at, are_below, place_in, At, Zero, HasRoom, live_rank, length-insert, length-ordered, ordered-sorted}
+use Rattle.amp_plan.proofs.Words.{and_from, Key, key_of, euler, stable, insert, remove, ordered, ordered_with, IsSortedFrom, covers, live, AllBelow, ascending, Each-keep, KeyErr, NoPlace, TooMany, Unstable, ℚ, each, Tensors, row_b, row_c, Each, Each-map, Each-each, Each-below, looked_up, Planning, tensors_of, rank_at, are_below, place_in, At, Zero, HasRoom, live_rank, length-insert, length-ordered, ordered-sorted}
 use Rattle.airy_math.proofs.MoveLemmas.{ascending-insert, ascending-remove, all_below-insert, all_below-remove}
 use Rattle.airy_math.proofs.PlannedLaw.{small}
 use Rattle.airy_math.specs.Sums.{below}
+use Rattle.airy_math.proofs.PlanLemmas.{sorted_small}
 
 -- ---- lists
 
@@ -117,16 +118,11 @@ found_beside p x {g} {J} {slice} {r} e h q = rank_ordered p g x J r h (q ∙ ap 
 
 -- ---- lists with one more or one less
 
-pub sorted_from : (k m : ℕ) (xs : List ℕ) → Ascending k xs → AllBelow m xs → IsSortedFrom k m xs
-unfolding IsSortedFrom
-sorted_from k m [] s b = tt
-sorted_from k m (x ∷ xs) s b = (s.0, b.0, sorted_from x m xs s.1 b.1)
-
 pub sorted-insert : (m x : ℕ) (xs : List ℕ) → x < m → IsSortedFrom 0 m xs → IsSortedFrom 0 m (insert x xs)
-sorted-insert m x xs h s = sorted_from 0 m (insert x xs) (ascending-insert 0 x xs (omega arith) (ascending 0 m xs s)) (all_below-insert m x xs h (small 0 m xs s))
+sorted-insert m x xs h s = sorted_small 0 m (insert x xs) (ascending-insert 0 x xs (omega arith) (ascending 0 m xs s)) (all_below-insert m x xs h (small 0 m xs s))
 
 pub sorted-remove : (m x : ℕ) (xs : List ℕ) → IsSortedFrom 0 m xs → IsSortedFrom 0 m (remove x xs)
-sorted-remove m x xs s = sorted_from 0 m (remove x xs) (ascending-remove 0 x xs (ascending 0 m xs s)) (all_below-remove m x xs (small 0 m xs s))
+sorted-remove m x xs s = sorted_small 0 m (remove x xs) (ascending-remove 0 x xs (ascending 0 m xs s)) (all_below-remove m x xs (small 0 m xs s))
 
 pub length-remove : (a : ℕ) (xs : List ℕ) → length (remove a xs) ≤ length xs
 unfolding remove

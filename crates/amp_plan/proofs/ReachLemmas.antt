@@ -3,10 +3,11 @@ use Rattle.std.proofs.Common.{◌≡◌, ℕ, zero, suc, ◌+◌, ◌-◌, ◌*�
 use Rattle.amp_plan.proofs.Words.{unsigned_abs, AllByRecursion, ints, and_parts, false≢true, natural, Key, key_of, insert, stable, covers, live, eq_z, per_n, Split, Shape, All, Exact, AtMost, put_before, chosen_split, all_splits, looked_up, Planning, tensors_of, rank_at, RankedTerm, Twice, split_part, live_rank, for_ranks, law_excess, covers_excess, choice_part, IsShare, FitsShare, IsChosen, Share, Chosen}
 use Rattle.airy_math.specs.Rational.{whole}
 use Rattle.airy_math.specs.Sums.{below}
-use Rattle.amp_plan.specs.Measures.{excess, gain, loss}
-use Rattle.amp_plan.specs.Shares.{behind, listed, can_reach}
-use Rattle.amp_plan.proofs.ChoiceLemmas.{each-none, all-weaken, all-both, all-map, all-counting}
-use Rattle.amp_plan.proofs.MeasureLemmas.{excess-append, excess-insert, excess-small, covers-excess, AreBytes, bytes_below}
+use Rattle.index_lists.specs.Measures.{excess, gain, loss}
+use Rattle.index_lists.specs.Parts.{behind, listed}
+use Rattle.amp_plan.specs.Shares.{can_reach}
+use Rattle.index_lists.proofs.SplitLemmas.{each-none, all-weaken, all-both, all-map, all-counting}
+use Rattle.index_lists.proofs.MeasureLemmas.{excess-append, excess-insert, excess-small, covers-excess, AreBytes, bytes_below}
 
 -- A part and the rest of a list: what they have together, and how far the part's excess reaches.
 pub record IsShared (c : ℤ) (xs : List ℕ) (u : Split) : Type 0 where

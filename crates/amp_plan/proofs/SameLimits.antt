@@ -1,16 +1,12 @@
 -- Tensors with the same entries below dim have plans with the same limits.
-use Rattle.std.proofs.Common.{◌≡◌, ℕ, zero, suc, ◌+◌, ◌<◌, ◌≤◌, refl, sym, ap, ap₂, ◌∙◌, arith, List, ◌∷◌, length, map, cond, ◌&&◌, leb}
+use Rattle.std.proofs.Common.{◌≡◌, ℕ, ◌<◌, refl, sym, ap, ◌∙◌, arith, List, length, map, cond, ◌&&◌, leb}
 use Rattle.amp_plan.proofs.Words.{Key, count_from, keep, Tensors, needs, planned, IsPlanned, place_of, PlanLaw, has, named_ranks, needs_rank, needed, need_counts, first_past, PassesBound, PassesCells, limit, level_at}
 use Rattle.airy_math.specs.Sums.{below}
 use Rattle.airy_math.specs.Ranks.{key_at}
 use Rattle.airy_math.specs.BelowDim.{SameBelowDim, BelowDimLaw}
 use Rattle.amp_plan.specs.Limits.{past}
 use Rattle.amp_plan.specs.SameLimits.{SameLimitsLaw}
-
-map_from : {A : Type 0} (f g : ℕ → A) (k n : ℕ) → ((r : ℕ) → k ≤ r → r < k + n → f r ≡ g r) → map f (count_from k n) ≡ map g (count_from k n)
-unfolding count_from
-map_from f g k zero h = refl
-map_from f g k (suc n) h = ap₂ ◌∷◌ (h k (omega arith) (omega arith)) (map_from f g (suc k) n (λ r p q. h r (omega arith) (omega arith)))
+use Rattle.airy_math.proofs.KeyLemmas.{map-count_cong}
 
 -- how many ranks the keys have, each counted once
 count_of : List Key → List Key → ℕ
@@ -23,7 +19,7 @@ count_is T X r = refl
 pub counts_same : (T T' : Tensors) (X : ℕ) → PlanLaw → SameBelowDim T T' → need_counts T X ≡ need_counts T' X
 unfolding need_counts below
 counts_same T T' X once same =
-    map_from (λ r. length (needed T X r)) (λ r. length (needed T' X r)) 0 (length (planned T X)) (λ r p q. one r (omega arith))
+    map-count_cong (λ r. length (needed T X r)) (λ r. length (needed T' X r)) 0 (length (planned T X)) (λ r p q. one r (omega arith))
     ∙ ap (λ plan. map (λ r. length (needed T' X r)) (count_from 0 (length plan))) (same.plan X)
   where
     one : (r : ℕ) → r < length (planned T X) → length (needed T X r) ≡ length (needed T' X r)

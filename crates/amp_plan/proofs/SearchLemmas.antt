@@ -1,10 +1,10 @@
 -- Searches: from left to right, and by halves.
-use Rattle.std.proofs.Common.{◌≡◌, ℕ, suc, ◌+◌, ◌<◌, ◌≤◌, Bool, true, false, List, [], ◌∷◌, length, drop, get_or, refl, sym, ◌∙◌, ap, arith, length-drop, ltb, ◌⊎◌, inl, inr, slice_index}
+use Rattle.std.proofs.Common.{◌≡◌, ℕ, ◌+◌, ◌<◌, ◌≤◌, Bool, true, false, List, [], ◌∷◌, length, drop, get_or, refl, sym, ◌∙◌, ap, arith, length-drop, ltb, ◌⊎◌, inl, inr, slice_index}
 use Rattle.amp_plan.proofs.Words.{cases_lt, cases_order, Key, place_of, are_below, AreInOrder}
 use Rattle.std.proofs.lemmas.List.{drop_more}
-use Rattle.airy_math.specs.Keys.{same_key, before}
+use Rattle.airy_math.specs.Keys.{before}
 use Rattle.airy_math.proofs.BeforeLemmas.{before-self, before-back}
-use Rattle.airy_math.proofs.PlannedLaw.{key_same}
+use Rattle.airy_math.proofs.RankLaw.{get_or-place}
 
 pub below-more : (dim : ℕ) (xs : List ℕ) (i : ℕ) → i < length xs → slice_index xs i < dim → are_below dim (drop i xs) ≡ are_below dim (drop (i + 1) xs)
 unfolding are_below
@@ -24,21 +24,12 @@ below-end dim xs i h = below-nil dim (drop i xs) (omega (arith, length-drop i xs
 
 -- ---- a search by halves
 
-there : (key d : Key) (keys : List Key) → place_of key keys < length keys → get_or keys (place_of key keys) d ≡ key
-unfolding place_of
-there key d [] h = absurd (omega arith)
-there key d (k ∷ keys) h = by (same_key key k) refl h (there key d keys)
-  where
-    by : (t : Bool) → same_key key k ≡ t → elim t [ true ↦ 0 | false ↦ suc (place_of key keys) ] < suc (length keys) → (place_of key keys < length keys → get_or keys (place_of key keys) d ≡ key) → get_or (k ∷ keys) (elim t [ true ↦ 0 | false ↦ suc (place_of key keys) ]) d ≡ key
-    by true e h r = sym (key_same key k e)
-    by false e h r = r (omega arith)
-
 -- a key that is before it stands before its place
 pub place-above : (key : Key) (keys : List Key) (i : ℕ) → AreInOrder keys → place_of key keys < length keys → i < length keys → before (get_or keys i key) key ≡ true → i < place_of key keys
 place-above key keys i o h l b = by (cases_order i (place_of key keys))
   where
     at : get_or keys (place_of key keys) key ≡ key
-    at = there key key keys h
+    at = get_or-place key key keys h
 
     clash : (t : Bool) → t ≡ true → t ≡ false → ⊥
     clash true u v = cc
@@ -58,5 +49,5 @@ place-below key keys i o h b = by (cases_lt i (place_of key keys))
     clash false u v = cc
 
     by : (i < place_of key keys) ⊎ (place_of key keys ≤ i) → place_of key keys ≤ i
-    by (inl s) = absurd (clash (before (get_or keys i key) key) (ap (before (get_or keys i key)) (sym (there key key keys h)) ∙ o key i (place_of key keys) s h) b)
+    by (inl s) = absurd (clash (before (get_or keys i key) key) (ap (before (get_or keys i key)) (sym (get_or-place key key keys h)) ∙ o key i (place_of key keys) s h) b)
     by (inr s) = s

@@ -4,7 +4,8 @@ use Rattle.amp_plan.proofs.Words.{AllByRecursion, pow-le-pow_right, times, total
 use Rattle.airy_math.specs.Keys.{more}
 use Rattle.airy_math.proofs.PlannedLaw.{small}
 use Rattle.airy_index.specs.SplitLaw.{IsSplitOf}
-use Rattle.amp_plan.proofs.RankWalkLemmas.{sorted_from}
+use Rattle.airy_math.proofs.PlanLemmas.{sorted_small}
+use Rattle.airy_index.proofs.SplitLaw.{times-first}
 
 -- the elements are bytes
 pub sorted_bytes : (k m : ℕ) (xs : List ℕ) → IsSortedFrom k m xs → ((i : ℕ) → get_or xs i 0 < 256) → IsSortedFrom k 256 xs
@@ -21,10 +22,6 @@ stands_below a m (x ∷ xs) h p = by (nat_eq a x) refl p (stands_below a m xs h.
     by true e p r = let s : a ≡ x = grind arith in omega (arith, s, h.0)
     by false e p r = r p
 
-times-self : (x : ℕ) (xs : List ℕ) → 0 < times x (x ∷ xs)
-unfolding times
-times-self x xs = let t : nat_eq x x ≡ true = grind arith in rw t (omega arith)
-
 times-tail : (a x : ℕ) (xs : List ℕ) → times a xs ≤ times a (x ∷ xs)
 unfolding times
 times-tail a x xs = by (nat_eq a x)
@@ -36,7 +33,7 @@ times-tail a x xs = by (nat_eq a x)
 below_by_times : (m : ℕ) (ys xs : List ℕ) → ((a : ℕ) → times a ys ≤ times a xs) → AllBelow m xs → AllBelow m ys
 below_by_times m [] xs h b = tt
 below_by_times m (y ∷ ys) xs h b =
-    (stands_below y m xs b (omega (arith, h y, times-self y ys)), below_by_times m ys xs (λ a. omega (arith, h a, times-tail a y ys)) b)
+    (stands_below y m xs b (omega (arith, h y, times-first y ys)), below_by_times m ys xs (λ a. omega (arith, h a, times-tail a y ys)) b)
 
 all_at : {A : Type 0} (P : A → Type 0) (xs ys : List A) (x : A) → AllByRecursion P (xs ++ x ∷ ys) → P x
 all_at P [] ys x h = h.0
@@ -48,10 +45,10 @@ total_at f [] ys x = omega arith
 total_at f (z ∷ xs) ys x = omega (arith, total_at f xs ys x)
 
 part_below : (m : ℕ) (I part rest : List ℕ) → ((a : ℕ) → times a part + times a rest ≡ times a I) → IsSortedFrom 0 m I → IsSortedFrom 0 256 part → IsSortedFrom 0 m part
-part_below m I part rest h s p = sorted_from 0 m part (ascending 0 256 part p) (below_by_times m part I (λ a. omega (arith, h a)) (small 0 m I s))
+part_below m I part rest h s p = sorted_small 0 m part (ascending 0 256 part p) (below_by_times m part I (λ a. omega (arith, h a)) (small 0 m I s))
 
 rest_below : (m : ℕ) (I part rest : List ℕ) → ((a : ℕ) → times a part + times a rest ≡ times a I) → IsSortedFrom 0 m I → IsSortedFrom 0 256 rest → IsSortedFrom 0 m rest
-rest_below m I part rest h s p = sorted_from 0 m rest (ascending 0 256 rest p) (below_by_times m rest I (λ a. omega (arith, h a)) (small 0 m I s))
+rest_below m I part rest h s p = sorted_small 0 m rest (ascending 0 256 rest p) (below_by_times m rest I (λ a. omega (arith, h a)) (small 0 m I s))
 
 few_ways : (n w : ℕ) → n ≤ 25 → w ≤ 2 ^ n → w < 2 ^ 63
 few_ways n w h l =

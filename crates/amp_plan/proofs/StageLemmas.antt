@@ -1,14 +1,12 @@
 -- The numbers of a walk over the splits of a list, from one step to the next.
-use Rattle.std.proofs.Common.{◌≡◌, ℕ, zero, suc, ◌+◌, ◌-◌, ◌*◌, ◌/◌, ◌<◌, ◌≤◌, ◌^◌, List, [], ◌∷◌, ◌++◌, length, length-append, append_assoc, append-nil, refl, sym, ap, subst, ◌∙◌, arith, Option, ℤ, pos, ◌+ℤ◌, ◌-ℤ◌, replicate}
-use Rattle.amp_plan.proofs.Words.{ints, mul_assoc, mul-le-mul, one-le-pow, natural, Key, key_of, insert, total, Split, binomial, whole_length, binomial-small, small_more, looked_up, list_code-small, list_code-more, list_code-none, list_code-append, index_code-small, Planning, tensors_of, live_rank, IsMeasured, IsLight, IsCandidate, more_of, IsShare, FitsShare, IsChosen, Measure, Share, Chosen, length-insert}
+use Rattle.std.proofs.Common.{◌≡◌, ℕ, ◌+◌, ◌-◌, ◌*◌, ◌/◌, ◌<◌, ◌≤◌, ◌^◌, List, [], ◌∷◌, ◌++◌, length, length-append, append-nil, refl, sym, ap, subst, ◌∙◌, arith, Option, ℤ, pos, ◌+ℤ◌, ◌-ℤ◌, replicate}
+use Rattle.amp_plan.proofs.Words.{ints, mul-le-mul, one-le-pow, natural, Key, key_of, insert, total, Split, binomial, whole_length, binomial-small, small_more, looked_up, list_code-small, list_code-more, list_code-none, list_code-append, index_code-small, Planning, tensors_of, live_rank, IsMeasured, IsLight, IsCandidate, more_of, IsShare, FitsShare, IsChosen, Measure, Share, Chosen, length-insert}
 use Rattle.std.proofs.lemmas.List.{length-replicate}
-use Rattle.std.proofs.Math.Nat.{mul-div_cancel}
-use Rattle.airy_index.proofs.BinomialLemmas.{binomial-step}
-use Rattle.amp_plan.specs.Measures.{gain, loss}
-use Rattle.amp_plan.specs.Shares.{listed}
+use Rattle.index_lists.specs.Measures.{gain, loss}
+use Rattle.index_lists.specs.Parts.{listed}
 use Rattle.amp_plan.proofs.RankWalkLemmas.{sorted-insert}
-use Rattle.amp_plan.proofs.ChoiceLemmas.{fits-more, fits-end}
-use Rattle.amp_plan.proofs.MeasureLemmas.{AreBytes, measured-append, measured-rest, measured-insert, measured-light}
+use Rattle.index_lists.proofs.SplitLemmas.{fits-more, fits-end}
+use Rattle.index_lists.proofs.MeasureLemmas.{measured-append, measured-rest, measured-insert, measured-light, part-next, ways-next, bytes-append, bytes-replicate}
 use Rattle.amp_plan.proofs.ReachLemmas.{gain-replicate, loss-replicate}
 
 -- ---- the numbers of a choice
@@ -81,34 +79,6 @@ pub record IsAt (h : Share) (r : ℕ × ℕ) (others : List (ℕ × ℕ)) (s : S
   pub ways : c.ways ≡ s.ways * binomial r.1 t
   pub gain : c.gain ≡ gain h.per_n (listed others)
   pub loss : c.loss ≡ loss h.per_n (listed others)
-
-replicate-push : (t x : ℕ) → replicate (suc t) x ≡ replicate t x ++ x ∷ []
-replicate-push zero x = refl
-replicate-push (suc t) x = ap (λ l. x ∷ l) (replicate-push t x)
-
--- the measure with one copy more
-pub part-next : (c : ℤ) (xs : List ℕ) (x t : ℕ) (m n item : Measure) → IsMeasured c (xs ++ replicate t x) m → IsMeasured c (x ∷ []) item
-    → n ≡ record { places = m.places + item.places; excess = m.excess +ℤ item.excess; code = m.code + item.code } → IsMeasured c (xs ++ replicate (t + 1) x) n
-part-next c xs x t m n item a i same =
-    let more : replicate (t + 1) x ≡ replicate t x ++ x ∷ [] = ap (λ n. replicate n x) (let u : t + 1 ≡ suc t = omega arith in u) ∙ replicate-push t x in
-    let list : (xs ++ replicate t x) ++ x ∷ [] ≡ xs ++ replicate (t + 1) x = append_assoc xs (replicate t x) (x ∷ []) ∙ ap (λ l. xs ++ l) (sym more) in
-    subst (λ l. IsMeasured c l n) list (subst (IsMeasured c ((xs ++ replicate t x) ++ x ∷ [])) (sym same) (measured-append c (xs ++ replicate t x) (x ∷ []) m item a i))
-
--- and the number of ways
-pub ways-next : (w n t : ℕ) → (w * binomial n t) * (n - t) / (t + 1) ≡ w * binomial n (t + 1)
-ways-next w n t =
-    let u : t + 1 ≡ suc t = omega arith in
-    let step = binomial-step n t in
-    let whole : (w * binomial n t) * (n - t) ≡ (w * binomial n (suc t)) * suc t = mul_assoc w (binomial n t) (n - t) ∙ ap (λ z. w * z) (sym step) ∙ sym (mul_assoc w (binomial n (suc t)) (suc t)) in
-    rw (u, whole) (mul-div_cancel (w * binomial n (suc t)) (omega arith))
-
-pub bytes-append : (xs ys : List ℕ) → AreBytes xs → AreBytes ys → AreBytes (xs ++ ys)
-bytes-append [] ys h k = k
-bytes-append (x ∷ xs) ys h k = (h.0, bytes-append xs ys h.1 k)
-
-pub bytes-replicate : (t x : ℕ) → x < 256 → AreBytes (replicate t x)
-bytes-replicate zero x h = tt
-bytes-replicate (suc t) x h = (h, bytes-replicate t x h)
 
 turned : (x : ℕ) (c e : ℤ) → e ≡ pos x -ℤ c → pos 0 -ℤ e ≡ c -ℤ pos x
 turned x c e i = omega (arith, ints, i)

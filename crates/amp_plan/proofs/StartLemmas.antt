@@ -2,12 +2,13 @@
 use Rattle.std.proofs.Common.{◌≡◌, ℕ, ◌≤◌, ◌^◌, List, [], ◌∷◌, length, refl, sym, ap, subst, ◌∙◌, arith, lit≤, pos}
 use Rattle.amp_plan.proofs.Words.{AllByRecursion, pow-le-pow_right, IsSortedFrom, per_n, splits, whole_length, looked_up, Planning, tensors_of, RankedTerm, HasRoom, IsPartOf, genus_part, IsMeasured, no_split, of_share, IsShare, FitsShare, IsChosen, Share}
 use Rattle.airy_math.specs.Splits.{runs}
-use Rattle.amp_plan.specs.Measures.{gain, loss}
+use Rattle.index_lists.specs.Measures.{gain, loss}
 use Rattle.amp_plan.specs.declared.pair.Pair.{Pair}
 use Rattle.amp_plan.proofs.SplitWalkLemmas.{part_of}
-use Rattle.amp_plan.proofs.ChoiceLemmas.{all-both, fits-all}
-use Rattle.amp_plan.proofs.MeasureLemmas.{measured-none}
-use Rattle.amp_plan.proofs.RestLemmas.{AddUp, splits-add, measured-whole, all-standing, listed-runs, length-runs}
+use Rattle.index_lists.proofs.SplitLemmas.{all-both, fits-all}
+use Rattle.index_lists.proofs.MeasureLemmas.{measured-none}
+use Rattle.index_lists.proofs.RestLemmas.{AddUp, splits-add, measured-whole, all-standing, listed-runs}
+use Rattle.airy_index.proofs.RunLemmas.{whole_length-runs}
 
 sorted-weaken : (k m n : ℕ) (xs : List ℕ) → m ≤ n → IsSortedFrom k m xs → IsSortedFrom k n xs
 unfolding IsSortedFrom
@@ -30,7 +31,7 @@ pub chosen_first : {p : Planning} {h : Share} {I : List ℕ} {up down : ℕ} →
 unfolding no_split
 chosen_first {p} {h} {I} {up} {down} is room right e f =
     let few : length I ≤ 25 = omega (arith, room.level, is.bound) in
-    let short : whole_length (runs I) ≤ 25 = omega (arith, few, length-runs I) in
+    let short : whole_length (runs I) ≤ 25 = omega (arith, few, whole_length-runs I) in
     let power : 2 ^ whole_length (runs I) ≤ 2 ^ 25 = pow-le-pow_right (lit≤ tt) short in
     record {
       part = measured-none h.per_n;

@@ -1,19 +1,9 @@
 -- What a visitor has after several lists of terms, and which ranks it allows.
-use Rattle.std.proofs.Common.{◌≡◌, ℕ, suc, ◌+◌, ◌-◌, ◌<◌, ◌≤◌, List, [], ◌∷◌, ◌++◌, length, drop, get_or, Option, Some, None, refl, sym, ap, ap₂, subst, ◌∙◌, arith, append_assoc, append-nil, ◌↔◌}
-use Rattle.amp_plan.proofs.Words.{each, count_from, RankedTerm, ranks_of, after_terms, AreAllowed, NameAllowed, Takes, for_rank, for_ranks}
+use Rattle.std.proofs.Common.{◌≡◌, ℕ, ◌+◌, ◌<◌, List, [], ◌∷◌, ◌++◌, length, drop, get_or, Option, Some, None, refl, sym, ap, ap₂, subst, ◌∙◌, append_assoc, append-nil, ◌↔◌}
+use Rattle.amp_plan.proofs.Words.{each, RankedTerm, ranks_of, after_terms, AreAllowed, NameAllowed, Takes, for_rank, for_ranks}
 use Rattle.std.proofs.lemmas.List.{drop_more}
-use Rattle.airy_math.specs.Sums.{below}
-
--- ---- lists
-
-pub each-append : {A B : Type 0} (f : A → List B) (xs ys : List A) → each (xs ++ ys) f ≡ each xs f ++ each ys f
-unfolding each
-each-append f [] ys = refl
-each-append f (x ∷ xs) ys = ap (λ l. f x ++ l) (each-append f xs ys) ∙ sym (append_assoc (f x) (each xs f) (each ys f))
-
-pub each-one : {A B : Type 0} (f : A → List B) (x : A) → each (x ∷ []) f ≡ f x
-unfolding each
-each-one f x = append-nil (f x)
+use Rattle.airy_math.proofs.EachLemmas.{each-append}
+use Rattle.index_lists.proofs.SplitLemmas.{each-one}
 
 -- a list from an item on
 pub drop-read : {A : Type 0} (xs : List A) (i : ℕ) (x : A) → i < length xs → x ≡ get_or xs i x → drop i xs ≡ x ∷ drop (i + 1) xs
@@ -115,7 +105,7 @@ module _ {W S : Type 0} {allows : W → ℕ → Type 0} {state : W → S} {step 
     taken-more {all} {left} {rest} {x} {a} {b} {c} e h q = record {
       before = h.before ++ x ∷ [];
       parts = append_assoc h.before (x ∷ []) rest ∙ ap (λ l. h.before ++ l) (sym e) ∙ h.parts;
-      takes = takes-same (ap (λ l. each h.before f ++ l) (sym (each-one f x)) ∙ sym (each-append f h.before (x ∷ []))) (takes-append h.takes q);
+      takes = takes-same (ap (λ l. each h.before f ++ l) (sym (each-one f x)) ∙ sym (each-append h.before (x ∷ []) f)) (takes-append h.takes q);
     }
 
     pub taken-all : {all left : List A} {a b : W} → left ≡ [] → HasTaken allows state step f all left a b → Takes allows state step (each all f) a b
@@ -124,22 +114,5 @@ module _ {W S : Type 0} {allows : W → ℕ → Type 0} {state : W → S} {step 
     pub allowed-next : {all left rest : List A} {x : A} {a b : W} → left ≡ x ∷ rest → NameAllowed (allows a) (each all f) → HasTaken allows state step f all left a b → NameAllowed (allows b) (f x)
     unfolding each
     allowed-next {all} {left} {rest} {x} {a} {b} e n h =
-        let parts : each h.before f ++ each (x ∷ rest) f ≡ each all f = sym (each-append f h.before (x ∷ rest)) ∙ ap (λ l. each l f) (ap (λ l. h.before ++ l) (sym e) ∙ h.parts) in
+        let parts : each h.before f ++ each (x ∷ rest) f ≡ each all f = sym (each-append h.before (x ∷ rest) f) ∙ ap (λ l. each l f) (ap (λ l. h.before ++ l) (sym e) ∙ h.parts) in
         allowed-still (f x) h.takes (allowed-left (allows a) (f x) (each rest f) (allowed-right (allows a) (each h.before f) (each (x ∷ rest) f) (allowed-same (allows a) parts n)))
-
--- ---- numbers from k to g
-
-pub count-none : (g : ℕ) → count_from 0 (suc g - 0) ≡ below (suc g)
-unfolding below
-count-none g = let e : suc g - 0 ≡ suc g = omega arith in ap (count_from 0) e
-
-pub count-next : (k g : ℕ) → k ≤ g → count_from k (suc g - k) ≡ k ∷ count_from (k + 1) (suc g - (k + 1))
-unfolding count_from
-count-next k g h =
-    let e : suc g - k ≡ suc (suc g - (k + 1)) = omega arith in
-    let s : suc k ≡ k + 1 = omega arith in
-    ap (count_from k) e ∙ ap (λ n. k ∷ count_from n (suc g - (k + 1))) s
-
-pub count-over : (k g : ℕ) → g < k → count_from k (suc g - k) ≡ []
-unfolding count_from
-count-over k g h = let e : suc g - k ≡ 0 = omega arith in ap (count_from k) e

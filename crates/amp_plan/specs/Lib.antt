@@ -2,14 +2,11 @@ pub mod Plans
 pub mod Places
 pub mod Needs
 pub mod Limits
-pub mod Listing
 pub mod Rows
 pub mod Ranked
 pub mod Walk
 pub mod Marks
 pub mod Kept
-pub mod Measures
+pub mod Candidates
 pub mod Shares
-pub mod Rests
-pub mod SplitLists
 pub mod SameLimits

@@ -1,40 +1,25 @@
+-- For private functions and for proofs: no public contract rests on this file.
 -- The products of a pair of indices with a genus on the left, walked over by how many of each distinct index the part takes.
 use Prim.Native.Nat.{ℕ, ◌+◌, ◌*◌, ◌-◌, ◌≤◌, ◌<◌, ◌^◌}
 use mathlib.Core.Path.{◌≡◌}
 use mathlib.Core.Bool.{Bool, ◌&&◌}
 use mathlib.Core.List.{List, [], ◌∷◌, ◌++◌}
-use lib.ListN.{length, replicate}
+use lib.ListN.{length}
 use lib.IntN.{pos, ◌+ℤ◌, ◌-ℤ◌}
 use lib.Signed.{le_z}
 use Rattle.std.specs.Int.RustNames.{unsigned_abs}
 use Rattle.std.specs.List.{AllByRecursion}
 use Rattle.airy_math.specs.Shapes.{per_n}
 use Rattle.airy_math.specs.Splits.{Split}
-use Rattle.airy_math.specs.Sums.{binomial, each}
+use Rattle.airy_math.specs.Sums.{each}
 use Rattle.airy_index.specs.Choices.{all_splits, whole_length}
 use Rattle.amp_plan.specs.Plans.{Planning, tensors_of}
 use Rattle.amp_plan.specs.Ranked.{RankedTerm, NameAllowed}
 use Rattle.amp_plan.specs.Walk.{IsPartOf, split_part, genus_part}
-use Rattle.amp_plan.specs.Measures.{IsMeasured, IsLight, gain, loss, law_excess}
+use Rattle.index_lists.specs.Parts.{behind, listed}
+use Rattle.index_lists.specs.Measures.{IsMeasured, IsLight, gain, loss, law_excess}
 use Rattle.amp_plan.specs.declared.share.Share.{Share}
-use Rattle.amp_plan.specs.declared.share.Chosen.{Chosen}
-
--- the split, with the other one's lists behind its own
-unfoldable pub behind : Split → Split → Split
-behind s t = record { part = s.part ++ t.part; rest = s.rest ++ t.rest; ways = s.ways * t.ways }
-
--- the split, with t of the copies of an index in its part and the others in its rest
-unfoldable pub more_of : Split → ℕ × ℕ → ℕ → Split
-more_of s r t = record { part = s.part ++ replicate t r.0; rest = s.rest ++ replicate (r.1 - t) r.0; ways = s.ways * binomial r.1 t }
-
--- nothing is chosen
-unfoldable pub no_split : Split
-no_split = record { part = []; rest = []; ways = 1 }
-
--- the list in which each index stands as often as it says
-unfoldable pub listed : List (ℕ × ℕ) → List ℕ
-listed [] = []
-listed (r ∷ rs) = replicate r.1 r.0 ++ listed rs
+use Rattle.index_lists.specs.declared.chosen.Chosen.{Chosen}
 
 -- the products of all splits that begin with the one that was chosen, and go on with the runs that are left
 unfoldable pub choice_part : Planning → Share → Split → List (ℕ × ℕ) → List RankedTerm

@@ -1,3 +1,4 @@
+-- For private functions and for proofs: no public contract rests on this file.
 -- The ranked terms of a pivot sum in the parts in which they are walked over.
 use Prim.Native.Nat.{ℕ, suc, ◌+◌, ◌*◌, ◌-◌, ◌<◌, ◌≤◌, ◌^◌}
 use mathlib.Core.Bool.{cond}

@@ -2,17 +2,17 @@ ghost use Rattle.std.specs.Prelude.{◌≡◌, ◌<◌, ◌≤◌, ◌++◌, ◌
 ghost use Rattle.airy_math.specs.Keys.{Key as KeyValue, key_of, insert, ordered};
 ghost use Rattle.airy_math.specs.Shapes.{per_n as shape_per_n};
 ghost use Rattle.amp_plan.specs.Plans.{tensors_of, keys_of};
-ghost use Rattle.amp_plan.specs.Measures.{IsMeasured, IsCandidate};
-ghost use Rattle.amp_plan.specs.Rests.{IsRest};
+ghost use Rattle.index_lists.specs.Measures.{IsMeasured};
+ghost use Rattle.amp_plan.specs.Candidates.{IsCandidate};
+ghost use Rattle.index_lists.specs.Rests.{IsRest};
 ghost use Rattle.amp_plan.specs.Walk.{HasRoom, live_rank};
 
-use crate::measure::{Measure, covers_excess, per_n};
 use crate::pair::Pair;
 use crate::place::Place;
 use crate::ranking::Ranking;
-use crate::rest::Rest;
 use airy_index::Key;
 use arrayvec::ArrayVec;
+use index_lists::{Measure, Rest, covers_excess, per_n};
 use key_index::{KeyIndex, genus_code};
 
 /// The list with one more index at its end.

@@ -9,11 +9,10 @@ ghost use Rattle.amp_plan.specs.Limits.{Tells};
 ghost use Rattle.amp_plan.specs.Kept.{IsRanking};
 
 use crate::cause::{PlanCause, PlanErr};
-use crate::letter::letter_at;
-use crate::listing::{Stop, add_level};
 use crate::place::Place;
 use crate::search::{are_below, place_among};
 use airy_index::{Covers, Key};
+use index_lists::{Stop, add_level, letter_at};
 use key_index::KeyIndex;
 use sparse_tensor::Tensors;
 use std::alloc::{AllocError, Global};

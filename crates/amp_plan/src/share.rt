@@ -8,19 +8,17 @@ ghost use Rattle.airy_math.specs.Shapes.{per_n as shape_per_n};
 ghost use Rattle.airy_math.specs.Splits.{Split, splits};
 ghost use Rattle.amp_plan.specs.Plans.{tensors_of, keys_of};
 ghost use Rattle.amp_plan.specs.Ranked.{NameAllowed, Takes};
-ghost use Rattle.amp_plan.specs.Rests.{IsRest};
+ghost use Rattle.index_lists.specs.Rests.{IsRest};
 ghost use Rattle.amp_plan.specs.Walk.{HasRoom, genus_part};
-ghost use Rattle.amp_plan.specs.Measures.{IsLight, IsMeasured};
-ghost use Rattle.amp_plan.specs.SplitLists.{chain, all_listed};
+ghost use Rattle.index_lists.specs.Measures.{IsLight, IsMeasured};
+ghost use Rattle.index_lists.specs.SplitLists.{chain, all_listed};
 ghost use Rattle.amp_plan.specs.Shares.{can_reach as reached, choice_part, of_share, IsShare, IsChosen, CanGoOn};
 
 use crate::finding::find_live;
-use crate::measure::{Measure, above_zero, law_excess, per_n};
 use crate::pair::Pair;
 use crate::ranking::Ranking;
-use crate::rest::Rest;
-use crate::split_list::{SplitList, chain_of};
 use crate::visitor::TermVisitor;
+use index_lists::{Chosen, Measure, Rest, SplitList, chain_of, law_excess, per_n};
 use key_index::KeyIndex;
 
 /// The products of a pair of indices with the genus k on the left: what its walk over splits needs.
@@ -39,16 +37,6 @@ pub(crate) struct Share {
     pub(crate) low: i64,
     /// to this one.
     pub(crate) high: i64,
-}
-
-/// A part that was chosen from the first runs: its measure, the number of ways, and how far its excess can still rise
-/// and fall.
-#[derive(Clone, Copy, Default)]
-pub(crate) struct Chosen {
-    pub(crate) part: Measure,
-    pub(crate) ways: u64,
-    pub(crate) gain: u32,
-    pub(crate) loss: u32,
 }
 
 impl Share {
@@ -77,46 +65,6 @@ impl Share {
             right: self.right,
             low: self.low,
             high: self.high,
-        }
-    }
-}
-
-impl Chosen {
-    /// The same before a run is chosen from, whose index has this measure: what the run can change is no longer to come.
-    fn before(&self, item: &Measure, count: u8) -> Chosen
-        requires item { IsLight item.now }
-        requires gain { count * natural item.now.excess ≤ self.now.gain }
-        requires loss { count * natural (pos 0 -ℤ item.now.excess) ≤ self.now.loss }
-        ensures { result ≡ record { part = self.now.part; ways = self.now.ways; gain = self.now.gain - count * natural item.now.excess; loss = self.now.loss - count * natural (pos 0 -ℤ item.now.excess) } }
-    {
-        let count = u32::from(count);
-        Chosen {
-            gain: self.gain - count * above_zero(item.excess),
-            loss: self.loss - count * above_zero(-item.excess),
-            ..*self
-        }
-    }
-
-    /// The part with one more of the index of a run, of which so many are taken.
-    pub(crate) fn one_more(&self, item: &Measure, count: u8, taken: u8) -> Chosen
-        requires part { IsLight self.now.part }
-        requires item { IsLight item.now }
-        requires taken { taken ≤ count }
-        requires short { count ≤ 25 }
-        requires ways { self.now.ways ≤ 2 ^ 25 }
-        ensures { result ≡ record self.now { part = record { places = self.now.part.places + item.now.places; excess = self.now.part.excess +ℤ item.now.excess; code = self.now.part.code + item.now.code }; ways = self.now.ways * (count - taken) / (taken + 1) } }
-    {
-        let ways = self.ways * u64::from(count - taken);
-        Chosen {
-            part: self.part.plus(*item),
-            // most runs are short, and a division by a constant is fast
-            ways: match taken {
-                0 => ways,
-                1 => ways / 2,
-                2 => ways / 3,
-                _ => ways / (u64::from(taken) + 1),
-            },
-            ..*self
         }
     }
 }

@@ -6,41 +6,21 @@ ghost use Rattle.airy_math.specs.Planned.{IsPlanned};
 ghost use Rattle.airy_index.specs.SplitValues.{split_value};
 ghost use Rattle.amp_plan.specs.Plans.{tensors_of, rank_at};
 ghost use Rattle.amp_plan.specs.Ranked.{NameAllowed, Takes, all_ranked};
-ghost use Rattle.amp_plan.specs.Measures.{IsMeasured};
+ghost use Rattle.index_lists.specs.Measures.{IsMeasured};
 ghost use Rattle.airy_math.specs.Splits.{splits};
-ghost use Rattle.amp_plan.specs.Rests.{IsRest};
-ghost use Rattle.amp_plan.specs.SplitLists.{all_listed};
+ghost use Rattle.index_lists.specs.Rests.{IsRest};
+ghost use Rattle.index_lists.specs.SplitLists.{all_listed};
 ghost use Rattle.amp_plan.specs.Walk.{HasRoom, IsPartOf, live_rank, once_part, run_part, b_part, joined_part, split_part, genus_part, product_part, entry_part, c_part};
 
 use crate::finding::{rank_beside, rank_joined, rank_with};
-use crate::measure::{Measure, per_n};
 use crate::pair::{Pair, weight_of};
 use crate::ranking::Ranking;
-use crate::rest::Rest;
 use crate::share::walk_share;
-use crate::split_list::{SplitList, splits_to_list};
 use crate::visitor::TermVisitor;
 use airy_index::{Key, Split, Splits};
-use arrayvec::ArrayVec;
 use frac128::Frac;
+use index_lists::{Measure, Rest, SplitList, per_n, splits_to_list, without};
 use item_chains::Chains;
-
-/// The list without its first x.
-fn without(list: &[u8], x: u8) -> ArrayVec<u8, 26>
-    requires { length list.now ≤ 26 }
-    ensures { result.items ≡ remove x list.now }
-{
-    let mut left = ArrayVec::new();
-    let mut found = false;
-    for y in list {
-        if !found && *y == x {
-            found = true;
-        } else {
-            left.push(*y);
-        }
-    }
-    left
-}
 
 /// Hands over all terms of the pivot sum of a planned key, for one of its indices, in their order, over a ranking.
 pub(crate) fn walk_ranked<V: TermVisitor>(ranking: &Ranking, key: &Key, pivot: u8, visitor: &mut V)
@@ -75,7 +55,8 @@ fn walk_parts<V: TermVisitor>(ranking: &Ranking, genus: u8, pivot: u8, rest: &[u
     requires allowed { NameAllowed (V.allows visitor.old) (b_part ranking.now pivot genus rest.now ++ c_part ranking.now pivot genus rest.now) }
     ensures { Takes V.allows V.state V.step (b_part ranking.now pivot genus rest.now ++ c_part ranking.now pivot genus rest.now) visitor.old visitor.new }
 {
-    let rest = Rest::of(ranking, rest);
+    ranking.tensors().soundness_fact();
+    let rest = Rest::of(ranking.index(), ranking.tensors().shape(), rest);
     walk_b(ranking, genus, pivot, &rest, visitor);
     walk_c(ranking, genus, pivot, rest, visitor);
 }
@@ -146,7 +127,7 @@ fn walk_c<V: TermVisitor>(ranking: &Ranking, genus: u8, pivot: u8, rest: Rest, v
     requires allowed { NameAllowed (V.allows visitor.old) (c_part ranking.now pivot genus rest.list.items) }
     ensures { Takes V.allows V.state V.step (c_part ranking.now pivot genus rest.list.items) visitor.old visitor.new }
 {
-    match splits_to_list(ranking, pivot, &rest) {
+    match splits_to_list(ranking.tensors(), pivot, &rest) {
         1..=76 => walk_in_room::<76, V>(ranking, genus, pivot, rest, visitor),
         77..=128 => walk_in_room::<128, V>(ranking, genus, pivot, rest, visitor),
         129..=192 => walk_in_room::<192, V>(ranking, genus, pivot, rest, visitor),
@@ -175,12 +156,13 @@ fn walk_in_room<const N: usize, V: TermVisitor>(
     ensures { Takes V.allows V.state V.step (c_part ranking.now pivot genus rest.list.items) visitor.old visitor.new }
 {
     ranking.is_small();
+    ranking.tensors().soundness_fact();
     let mut list = SplitList::<N> {
         rest,
         splits: Chains::new(),
         whole: false,
     };
-    list.list_all(ranking);
+    list.list_all(ranking.index(), ranking.tensors().shape());
     let row = ranking.tensors().row_c(pivot);
     for entry in row {
         walk_entry(ranking, genus, &list, *entry, visitor);

@@ -1,6 +1,6 @@
 -- A pivot sum that is made term by term is the defined one.
 use Rattle.std.proofs.Common.{◌≡◌, ℕ, Bool, true, false, List, [], ◌∷◌, ◌++◌, map, Option, Some, None, refl, sym, ap, ap₂, subst, ◌∙◌, arith}
-use Rattle.std.specs.Prelude.{cond, min}
+use Rattle.std.specs.Prelude.{cond, min, IfSome}
 use Rattle.airy_math.specs.Rational.{ℚ}
 use Rattle.airy_math.specs.RationalLaws.{0ℚ}
 use Rattle.amp_terms.specs.declared.Outcome.{Outcome}
@@ -10,13 +10,46 @@ use Rattle.airy_math.specs.Terms as math
 use Rattle.airy_math.specs.Terms.{Term, named, terms, obtained_term, obtained_pivot_sum}
 use Rattle.airy_math.specs.Ranks.{place_of}
 use Rattle.amp_plan.specs.Plans.{Planning, keys_of, rank_at, tensors_of}
-use Rattle.amp_terms.specs.Outcomes.{ranks_named, smaller, has_value, outcome_from}
-use Rattle.airy_math.specs.Obtained.{obtained_from}
-use Rattle.amp_plan.specs.Ranked.{RankedTerm, ranked, all_ranked, ranks_of, obtained_at, after_terms, AreAllowed, NameAllowed}
-use Rattle.amp_terms.specs.Pivots.{Summing, with_term, all_noted, noted, number_at, least_without, pivot_outcome}
+use Rattle.amp_terms.specs.Outcomes.{ranks_named, smaller, has_value, outcome_from, value_or_zero, Value}
+use Rattle.airy_math.specs.Obtained.{obtained_from, both_obtained, obtained_sum, ◌⊛◌}
+use Rattle.amp_plan.specs.Ranked.{RankedTerm, Once, Joined, Twice, ranked, all_ranked, ranks_of, obtained_at, after_terms, AreAllowed, NameAllowed}
+use Rattle.amp_terms.specs.Pivots.{Summing, IsTerm, with_term, all_noted, noted, number_at, least_without, pivot_outcome}
 
 pub same_summing : {B : Type 0} (a b : Summing B) → a.reader ≡ b.reader → a.base ≡ b.base → a.shown ≡ b.shown → a.blocked ≡ b.blocked → a.sum ≡ b.sum → a ≡ b
 same_summing a b p q r s t = λ i. record { reader = p i; base = q i; shown = r i; blocked = s i; sum = t i }
+
+if-some : {A : Type 0} {P Q : A → Type 0} (o : Option A) → ((x : A) → P x → Q x) → IfSome o P → IfSome o Q
+if-some None f h = tt
+if-some (Some x) f h = f x h
+
+-- ---- terms whose ranks all have Values
+
+shown-value : (shown : ℕ → Outcome) (r : ℕ) (w : ℚ) → shown r ≡ Value w → Some (number_at shown r) ≡ Some w
+unfolding number_at value_or_zero
+shown-value shown r w e = ap (λ o. Some (value_or_zero o)) e
+
+shown-noted : (shown : ℕ → Outcome) (r : ℕ) (w : ℚ) → shown r ≡ Value w → (b : Option ℕ) → noted b r (shown r) ≡ b
+unfolding noted has_value
+shown-noted shown r w e b = ap (noted b r) e
+
+pub once_term : (shown : ℕ → Outcome) (m v : ℚ) (r : ℕ) (x : ℚ) (t : Option (Option ℚ)) → shown r ≡ Value x → IfSome t (λ y. y ≡ Some m ⊛ Some v ⊛ Some x) → IfSome t (IsTerm shown (Once m v r))
+unfolding obtained_at ranks_of all_noted
+once_term shown m v r x t e h = if-some t (λ y p. record { obtained = p ∙ ap (λ z. Some m ⊛ Some v ⊛ z) (sym (shown-value shown r x e)); none_blocks = shown-noted shown r x e }) h
+
+pub joined_term : (shown : ℕ → Outcome) (w : Option ℚ) (r : ℕ) (x : ℚ) (t : Option (Option ℚ)) → shown r ≡ Value x → IfSome t (λ y. y ≡ w ⊛ Some x) → IfSome t (IsTerm shown (Joined w r))
+unfolding obtained_at ranks_of all_noted
+joined_term shown w r x t e h = if-some t (λ y p. record { obtained = p ∙ ap (λ z. w ⊛ z) (sym (shown-value shown r x e)); none_blocks = shown-noted shown r x e }) h
+
+pub twice_term : (shown : ℕ → Outcome) (w : Option ℚ) (q : ℚ) (l r : ℕ) (x y : ℚ) (t : Option (Option ℚ)) → shown l ≡ Value x → shown r ≡ Value y → IfSome t (λ z. z ≡ w ⊛ Some q ⊛ Some x ⊛ Some y) → IfSome t (IsTerm shown (Twice w q l r))
+unfolding obtained_at ranks_of all_noted
+twice_term shown w q l r x y t e f h = if-some t
+    (λ z p. record { obtained = p ∙ ap₂ (λ a b. w ⊛ Some q ⊛ a ⊛ b) (sym (shown-value shown l x e)) (sym (shown-value shown r y f)); none_blocks = λ b. shown-noted shown r y f (noted b l (shown l)) ∙ shown-noted shown l x e b })
+    h
+
+-- such a term is added
+pub with_found : {B : Type 0} (old new : Summing B) (t : RankedTerm) (x : Option ℚ) → IsTerm old.shown t x → new.reader ≡ old.reader → new.base ≡ old.base → new.shown ≡ old.shown → new.blocked ≡ old.blocked → new.sum ≡ both_obtained obtained_sum old.sum x → new ≡ with_term old t
+unfolding with_term
+with_found old new t x h p q r s e = same_summing new (with_term old t) p q r (s ∙ sym (h.none_blocks old.blocked)) (e ∙ ap (both_obtained obtained_sum old.sum) h.obtained)
 
 -- ---- what stays, and what is found
 

@@ -1,16 +1,12 @@
 -- The least rank without a Value, found from left to right.
-use Rattle.std.proofs.Common.{◌≡◌, ℕ, suc, zero, ◌+◌, ◌<◌, ◌≤◌, List, ◌∷◌, true, false, length, drop, get_or, refl, sym, ap, ◌∙◌, arith, Option, Some, None, ℤ, map, replicate, not, eqb}
+use Rattle.std.proofs.Common.{◌≡◌, ℕ, suc, zero, ◌+◌, ◌<◌, ◌≤◌, List, ◌∷◌, true, false, length, drop, get_or, refl, sym, ap, ◌∙◌, arith, Option, Some, None, IfSome, map, replicate}
 use Rattle.std.proofs.lemmas.List.{at_drop_more, at_drop_all}
 use Rattle.airy_math.specs.Rational.{ℚ}
 use Rattle.amp_terms.specs.declared.Outcome.{Outcome}
 use Rattle.amp_terms.specs.declared.Outcome.TheVariants.{Value, Over, Blocked}
-use Rattle.std.specs.Option.{unwrap_or, is_some}
+use Rattle.std.specs.Option.{unwrap_or}
 use Rattle.airy_math.specs.RationalLaws.{0ℚ}
 use Rattle.amp_terms.specs.Outcomes.{has_value, value_or_zero}
-use Rattle.running_sum.specs.Kept.{fraction_of}
-use Rattle.running_sum.proofs.UnreducedLemmas.{some_fraction}
-use Rattle.amp_terms.specs.Cells.{valued, outcome_of}
-use Rattle.amp_terms.specs.declared.cell.Cell.TheVariants as cell
 use Rattle.amp_terms.specs.Tables.{first_without, next_rank, holds_value, value_of, value_of_cell}
 
 -- a rank that was found behind the first i
@@ -72,6 +68,10 @@ shown-whether (Some (Value v)) = refl
 shown-whether (Some Over) = refl
 shown-whether (Some (Blocked r)) = refl
 
+pub shown-word : (c : Option Outcome) (o : Option ℚ) → IfSome o (λ w. c ≡ Some (Value w)) → IfSome o (λ w. unwrap_or c Over ≡ Value w)
+shown-word c None h = tt
+shown-word c (Some w) h = ap (λ d. unwrap_or d Over) h
+
 -- the number of a Value, and 0 of any other outcome
 pub of_value : (o : Outcome) → has_value o ≡ true → value_of o ≡ Some (value_or_zero o)
 unfolding value_of has_value value_or_zero
@@ -96,20 +96,6 @@ none_has Over d = refl
 none_has (Blocked r) d = refl
 
 -- ---- cells
-
-pub valued-value : (o : Option ℚ) → value_of_cell (valued o) ≡ o
-unfolding valued value_of value_of_cell
-valued-value None = refl
-valued-value (Some v) = refl
-
-pub valued-whether : (o : Option ℚ) → holds_value (valued o) ≡ is_some o
-unfolding valued
-valued-whether None = refl
-valued-whether (Some v) = refl
-
-pub short-whether : (n : ℤ) (d : ℕ) → holds_value (outcome_of (cell.Short n d)) ≡ not (eqb d 0)
-unfolding outcome_of
-short-whether n d = valued-whether (fraction_of n d 0) ∙ sym (some_fraction n d)
 
 pub map-replicate : {A B : Type 0} (f : A → B) (n : ℕ) (x : A) → map f (replicate n x) ≡ replicate n (f x)
 map-replicate f zero x = refl

@@ -1,6 +1,7 @@
 -- The outcome of a pivot sum over the outcomes of ranks, and how it is found term by term.
 use Prim.Native.Nat.{ℕ}
 use mathlib.Core.Bool.{cond}
+use mathlib.Core.Path.{◌≡◌}
 use mathlib.Core.List.{List, [], ◌∷◌}
 use Rattle.std.specs.Prelude.{Option, None}
 use Rattle.airy_math.specs.Rational.{ℚ}
@@ -28,7 +29,8 @@ number_at shown r = value_or_zero (shown r)
 -- obtained, else its Value.
 unfoldable pub pivot_outcome : Tensors → List Key → (ℕ → Outcome) → Key → ℕ → Outcome
 pivot_outcome T plan shown key i =
-    outcome_from (least_without shown (ranks_named plan (terms T i key.g (remove i key.idx)))) (obtained_pivot_sum T (λ k. number_at shown (place_of k plan)) key i)
+    outcome_from (least_without shown (ranks_named plan (terms T i key.g (remove i key.idx))))
+    (obtained_pivot_sum T (λ k. number_at shown (place_of k plan)) key i)
 
 -- the outcomes in a list, and Over behind its end
 unfoldable pub listed : List Outcome → ℕ → Outcome
@@ -54,4 +56,10 @@ all_noted shown blocked (r ∷ rs) = all_noted shown (noted blocked r (shown r))
 
 -- the sum with one more term
 unfoldable pub with_term : {B : Type 0} → Summing B → RankedTerm → Summing B
-with_term s t = record s { blocked = all_noted s.shown s.blocked (ranks_of t); sum = both_obtained obtained_sum s.sum (obtained_at (number_at s.shown) t) }
+with_term s t =
+    record s { blocked = all_noted s.shown s.blocked (ranks_of t); sum = both_obtained obtained_sum s.sum (obtained_at (number_at s.shown) t) }
+
+-- What is obtained of a term whose ranks all have Values.
+pub record IsTerm (shown : ℕ → Outcome) (t : RankedTerm) (x : Option ℚ) : Type 0 where
+  pub obtained : x ≡ obtained_at (number_at shown) t
+  pub none_blocks : (b : Option ℕ) → all_noted shown b (ranks_of t) ≡ b

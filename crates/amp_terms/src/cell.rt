@@ -1,19 +1,19 @@
 ghost use Rattle.std.specs.Prelude.{◌≡◌, Some, IfSome, is_some};
 ghost use Rattle.amp_terms.specs.Cells.{outcome_of};
+ghost use Rattle.amp_terms.specs.Outcomes.{Value};
 ghost use Rattle.amp_terms.specs.Tables.{holds_value, value_of_cell};
-ghost use Rattle.running_sum.specs.Numbers.{number_of};
 
 use crate::Outcome;
 use frac128::Frac;
-use running_sum::Number;
+use running_sum::{Unreduced, Word};
 
 /// What a rank of a table has: a value stands as the sums multiply it.
-#[derive(Clone, Copy)]
+#[derive(Clone, Drop)]
 pub(crate) enum Cell {
     /// The rank was never filled.
     Unfilled,
-    /// The value num/den; a cell with den 0 is an unfilled one.
-    Short { num: i64, den: u64 },
+    /// A value whose numbers are words.
+    Short(Word),
     /// Any value.
     Long(Frac),
     Over,
@@ -22,14 +22,14 @@ pub(crate) enum Cell {
 
 impl Cell {
     /// A cell with an outcome.
-    #[tactic(auto, unfolding(crate::specs::Cells::outcome_of, crate::specs::Cells::valued))]
+    #[tactic(auto, unfolding(crate::specs::Cells::outcome_of))]
     pub(crate) fn of(outcome: Outcome) -> Cell
         ensures { outcome_of result ≡ Some outcome }
     {
         match outcome {
-            Outcome::Value(v) => match Number::of(v) {
-                Number::Short { num, den } => Cell::Short { num, den },
-                Number::Long(v) => Cell::Long(v),
+            Outcome::Value(value) => match Word::of(value) {
+                Some(word) => Cell::Short(word),
+                None => Cell::Long(value),
             },
             Outcome::Over => Cell::Over,
             Outcome::Blocked { first } => Cell::Blocked { first },
@@ -37,38 +37,40 @@ impl Cell {
     }
 
     /// Its outcome, where it was filled.
-    #[tactic(auto, unfolding(crate::specs::Cells::outcome_of, crate::specs::Cells::valued))]
-    pub(crate) fn outcome(self) -> Option<Outcome>
-        ensures { result ≡ outcome_of self }
+    #[tactic(auto, unfolding(crate::specs::Cells::outcome_of))]
+    pub(crate) fn outcome(&self) -> Option<Outcome>
+        ensures { result ≡ outcome_of self.now }
     {
         match self {
             Cell::Unfilled => None,
-            Cell::Short { num, den } => match (Number::Short { num, den }).value() {
-                Some(value) => Some(Outcome::Value(value)),
-                None => None,
-            },
-            Cell::Long(value) => Some(Outcome::Value(value)),
+            Cell::Short(word) => Some(Outcome::Value(word.value())),
+            Cell::Long(value) => Some(Outcome::Value(*value)),
             Cell::Over => Some(Outcome::Over),
-            Cell::Blocked { first } => Some(Outcome::Blocked { first }),
+            Cell::Blocked { first } => Some(Outcome::Blocked { first: *first }),
+        }
+    }
+
+    /// Its value as a factor of words, where it has one.
+    #[inline(always)]
+    #[tactic(auto, unfolding(crate::specs::Cells::outcome_of))]
+    pub(crate) fn word(&self) -> Option<Word>
+        ensures { IfSome result (λ w. outcome_of self.now ≡ Some (Value w)) }
+    {
+        match self {
+            Cell::Short(word) => Some(word.moved()),
+            _ => None,
         }
     }
 
     /// Its value as a factor, where it has one.
-    #[inline(always)]
     #[tactic(auto, unfolding(crate::specs::Cells::outcome_of, crate::specs::Tables::value_of_cell, crate::specs::Tables::value_of))]
-    pub(crate) fn number(&self) -> Option<Number>
-        ensures number { IfSome result (λ n. number_of n ≡ value_of_cell (outcome_of self.now)) }
+    pub(crate) fn factor(&self) -> Option<Unreduced>
+        ensures factor { IfSome result (λ x. x ≡ value_of_cell (outcome_of self.now)) }
         ensures whether { is_some result ≡ holds_value (outcome_of self.now) }
     {
         match self {
-            Cell::Short { num, den } => {
-                if *den == 0 {
-                    return None;
-                }
-                let (num, den) = (*num, *den);
-                Some(Number::Short { num, den })
-            }
-            Cell::Long(value) => Some(Number::Long(*value)),
+            Cell::Short(word) => Some(word.unreduced()),
+            Cell::Long(value) => Some(Unreduced::of(*value)),
             _ => None,
         }
     }

@@ -6,17 +6,17 @@ ghost use Rattle.airy_math.specs.RationalLaws.{0ℚ};
 ghost use Rattle.airy_math.specs.Terms.{terms};
 ghost use Rattle.amp_plan.specs.Plans.{tensors_of, keys_of, rank_at};
 ghost use Rattle.amp_terms.specs.declared.Outcome.{Outcome};
-ghost use Rattle.amp_terms.specs.Outcomes.{has_value, outcome_from, ranks_named, smaller, value_or_zero};
+ghost use Rattle.amp_terms.specs.Outcomes.{has_value, outcome_from, ranks_named, smaller, value_or_zero, Value};
 ghost use Rattle.amp_terms.specs.Tables.{value_of};
-ghost use Rattle.running_sum.specs.Numbers.{number_of};
 ghost use Rattle.amp_terms.specs.Pivots.{noted, pivot_outcome};
 ghost use Rattle.amp_plan.specs.Ranked.{AreAllowed, NameAllowed, all_ranked};
 
 use crate::Outcome;
+use crate::word_sum::WordSum;
 use airy_index::Key;
 use amp_plan::{Plan, TermVisitor, walk_terms};
 use frac128::Frac;
-use running_sum::{Number, Unreduced};
+use running_sum::{Unreduced, Word, long_joined, long_once, long_twice};
 
 /// Outcomes of ranks that can be read.
 pub trait Seen {
@@ -36,19 +36,33 @@ pub trait Seen {
         ensures same { shown self.new ≡ shown self.old }
         ensures base { made_over self.new ≡ made_over self.old };
 
-    /// The Value of a rank that it has as a factor, where it has one.
+    /// The Value of a rank that it has as a factor of words, where it is found to be one.
     #[inline(always)]
-    #[tactic(auto, using(crate::proofs::TableLemmas::none_has, crate::proofs::TableLemmas::has_some))]
-    fn number(&mut self, rank: u32) -> Option<Number>
+    fn word(&mut self, rank: u32) -> Option<Word>
         requires { has self.old rank }
-        ensures number { IfSome result (λ n. number_of n ≡ value_of (shown self.old rank)) }
+        ensures word { IfSome result (λ w. shown self.old rank ≡ Value w) }
+        ensures ranks { (r : ℕ) → has self.new r ↔ has self.old r }
+        ensures same { shown self.new ≡ shown self.old }
+        ensures base { made_over self.new ≡ made_over self.old }
+    {
+        match self.at(rank) {
+            Outcome::Value(v) => Word::of(v),
+            _ => None,
+        }
+    }
+
+    /// The Value of a rank that it has as a factor, where it has one.
+    #[tactic(auto, using(crate::proofs::TableLemmas::none_has, crate::proofs::TableLemmas::has_some))]
+    fn factor(&mut self, rank: u32) -> Option<Unreduced>
+        requires { has self.old rank }
+        ensures factor { IfSome result (λ x. x ≡ value_of (shown self.old rank)) }
         ensures whether { is_some result ≡ has_value (shown self.old rank) }
         ensures ranks { (r : ℕ) → has self.new r ↔ has self.old r }
         ensures same { shown self.new ≡ shown self.old }
         ensures base { made_over self.new ≡ made_over self.old }
     {
         match self.at(rank) {
-            Outcome::Value(v) => Some(Number::of(v)),
+            Outcome::Value(v) => Some(Unreduced::of(v)),
             _ => None,
         }
     }
@@ -66,37 +80,39 @@ pub fn pivot_value<S: Seen>(plan: &Plan, key: &Key, pivot: u8, seen: &mut S) -> 
     ensures same { S.shown seen.new ≡ S.shown seen.old }
     ensures base { S.made_over seen.new ≡ S.made_over seen.old }
 {
-    let mut sum = PivotSum {
-        seen,
-        blocked: None,
-        sum: Unreduced::of(Frac::whole(0)),
+    let mut sum = WordSum {
+        any: PivotSum {
+            seen,
+            blocked: None,
+            sum: Unreduced::of(Frac::whole(0)),
+        },
     };
     add_terms(plan, key, pivot, &mut sum);
-    sum.outcome()
+    sum.any.outcome()
 }
 
 /// Adds all terms to a sum that is 0.
-fn add_terms<S: Seen>(plan: &Plan, key: &Key, pivot: u8, sum: &mut PivotSum<'_, S>)
+fn add_terms<S: Seen>(plan: &Plan, key: &Key, pivot: u8, sum: &mut WordSum<'_, S>)
     requires planned { IsPlanned (tensors_of plan.now) plan.now.bound key.now }
     requires pivot { 0 < times pivot key.now.idx }
-    requires seen { NameAllowed (S.has sum.old.seen.now) (all_ranked (rank_at plan.now) (terms (tensors_of plan.now) pivot key.now.g (remove pivot key.now.idx))) }
-    requires unblocked { sum.old.blocked ≡ None }
-    requires zero { sum.old.sum ≡ Some 0ℚ }
-    ensures outcome { outcome_from sum.new.blocked sum.new.sum ≡ pivot_outcome (tensors_of plan.now) (keys_of plan.now) (S.shown sum.old.seen.now) key.now pivot }
-    ensures same_reference { sum.new.seen.ghost_name ≡ sum.old.seen.ghost_name }
-    ensures ranks { (r : ℕ) → S.has sum.new.seen.now r ↔ S.has sum.old.seen.now r }
-    ensures same { S.shown sum.new.seen.now ≡ S.shown sum.old.seen.now }
-    ensures base { S.made_over sum.new.seen.now ≡ S.made_over sum.old.seen.now }
+    requires seen { NameAllowed (S.has sum.old.any.seen.now) (all_ranked (rank_at plan.now) (terms (tensors_of plan.now) pivot key.now.g (remove pivot key.now.idx))) }
+    requires unblocked { sum.old.any.blocked ≡ None }
+    requires zero { sum.old.any.sum ≡ Some 0ℚ }
+    ensures outcome { outcome_from sum.new.any.blocked sum.new.any.sum ≡ pivot_outcome (tensors_of plan.now) (keys_of plan.now) (S.shown sum.old.any.seen.now) key.now pivot }
+    ensures same_reference { sum.new.any.seen.ghost_name ≡ sum.old.any.seen.ghost_name }
+    ensures ranks { (r : ℕ) → S.has sum.new.any.seen.now r ↔ S.has sum.old.any.seen.now r }
+    ensures same { S.shown sum.new.any.seen.now ≡ S.shown sum.old.any.seen.now }
+    ensures base { S.made_over sum.new.any.seen.now ≡ S.made_over sum.old.any.seen.now }
 {
     walk_terms(plan, key, pivot, sum);
 }
 
 /// The sum of the terms so far, and the least rank so far without a Value.
 #[derive(Drop)]
-struct PivotSum<'a, S> {
-    seen: &'a mut S,
-    blocked: Option<u32>,
-    sum: Unreduced,
+pub(crate) struct PivotSum<'a, S> {
+    pub(crate) seen: &'a mut S,
+    pub(crate) blocked: Option<u32>,
+    pub(crate) sum: Unreduced,
 }
 
 impl<'a, S: Seen> TermVisitor for PivotSum<'a, S> {
@@ -117,29 +133,31 @@ impl<'a, S: Seen> TermVisitor for PivotSum<'a, S> {
         self.sum.add(&Unreduced::of(v));
     }
 
+    #[inline(never)]
     fn once(&mut self, times: u8, v: Frac, rank: u32) {
-        let number = self.number(rank);
-        self.sum.add_once(times, v, number);
+        let factor = self.factor(rank);
+        self.sum.add(&long_once(times, v, &factor));
     }
 
+    #[inline(never)]
     fn joined(&mut self, weight: Option<Frac>, rank: u32) {
-        let number = self.number(rank);
-        self.sum.add_joined(weight, number);
+        let factor = self.factor(rank);
+        self.sum.add(&long_joined(weight, &factor));
     }
 
+    #[inline(never)]
     fn twice(&mut self, weight: Option<Frac>, ways: u64, left: u32, right: u32) {
-        let first = self.number(left);
-        let second = self.number(right);
-        self.sum.add_twice(weight, ways, first, second);
+        let first = self.factor(left);
+        let second = self.factor(right);
+        self.sum.add(&long_twice(weight, ways, &first, &second));
     }
 }
 
 impl<S: Seen> PivotSum<'_, S> {
     /// The Value at a rank, and 0 where it has none: then the rank is noted.
-    #[inline(always)]
-    fn number(&mut self, rank: u32) -> Number
+    fn factor(&mut self, rank: u32) -> Unreduced
         requires { S.has self.old.seen.now rank }
-        ensures number { number_of result ≡ Some (value_or_zero (S.shown self.old.seen.now rank)) }
+        ensures factor { result ≡ Some (value_or_zero (S.shown self.old.seen.now rank)) }
         ensures noted { self.new.blocked ≡ noted self.old.blocked rank (S.shown self.old.seen.now rank) }
         ensures sum { self.new.sum ≡ self.old.sum }
         ensures same_reference { self.new.seen.ghost_name ≡ self.old.seen.ghost_name }
@@ -147,11 +165,11 @@ impl<S: Seen> PivotSum<'_, S> {
         ensures same { S.shown self.new.seen.now ≡ S.shown self.old.seen.now }
         ensures base { S.made_over self.new.seen.now ≡ S.made_over self.old.seen.now }
     {
-        match self.seen.number(rank) {
-            Some(number) => number,
+        match self.seen.factor(rank) {
+            Some(factor) => factor,
             None => {
                 self.blocked = less(self.blocked, rank);
-                Number::of(Frac::whole(0))
+                Unreduced::of(Frac::whole(0))
             }
         }
     }
@@ -171,8 +189,7 @@ impl<S> PivotSum<'_, S> {
     }
 }
 
-/// The less of a rank and one that may be missing. It is no part of the common path.
-#[inline(never)]
+/// The less of a rank and one that may be missing.
 #[tactic(auto, unfolding(crate::specs::Outcomes::smaller))]
 fn less(least: Option<u32>, rank: u32) -> Option<u32>
     ensures { result ≡ smaller rank least }

@@ -1,7 +1,7 @@
 use crate::Outcome;
 use crate::pivot::Seen;
 use crate::table::Table;
-use running_sum::Number;
+use running_sum::{Unreduced, Word};
 
 /// The outcomes of a table, for the terms of a pivot sum: of each rank its own, and Over where it was never filled.
 #[derive(Drop)]
@@ -28,7 +28,11 @@ impl Seen for TableOutcomes<'_> {
     }
 
     #[inline(always)]
-    fn number(&mut self, rank: u32) -> Option<Number> {
-        self.table.number(rank)
+    fn word(&mut self, rank: u32) -> Option<Word> {
+        self.table.word(rank)
+    }
+
+    fn factor(&mut self, rank: u32) -> Option<Unreduced> {
+        self.table.factor(rank)
     }
 }

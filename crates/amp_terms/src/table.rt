@@ -1,11 +1,11 @@
 ghost use Rattle.std.specs.Prelude.{◌≡◌, ◌<◌, length, get_or, set, replicate, Some, None, IfOk, IfErr, IfSome, is_some};
-ghost use Rattle.running_sum.specs.Numbers.{number_of};
+ghost use Rattle.amp_terms.specs.Outcomes.{Value};
 ghost use Rattle.amp_terms.specs.Tables.{first_without, holds_value, value_at};
 
 use crate::Outcome;
 use crate::cell::Cell;
 use frac128::Frac;
-use running_sum::Number;
+use running_sum::{Unreduced, Word};
 use std::alloc::{AllocError, Global};
 use std::marker::Model;
 
@@ -79,15 +79,23 @@ impl Table {
         }
     }
 
-    /// The Value of a rank as a factor, or None where it has none.
+    /// The Value of a rank as a factor of words, where it has one.
     #[inline(always)]
-    #[tactic(auto, unfolding(crate::specs::Tables::value_at))]
-    pub(crate) fn number(&self, rank: u32) -> Option<Number>
+    pub(crate) fn word(&self, rank: u32) -> Option<Word>
         requires { rank < length self.now }
-        ensures number { IfSome result (λ n. number_of n ≡ value_at self.now rank) }
+        ensures { IfSome result (λ w. get_or self.now rank None ≡ Some (Value w)) }
+    {
+        self.cells[rank as usize].word()
+    }
+
+    /// The Value of a rank as a factor, or None where it has none.
+    #[tactic(auto, unfolding(crate::specs::Tables::value_at))]
+    pub(crate) fn factor(&self, rank: u32) -> Option<Unreduced>
+        requires { rank < length self.now }
+        ensures factor { IfSome result (λ x. x ≡ value_at self.now rank) }
         ensures whether { is_some result ≡ holds_value (get_or self.now rank None) }
     {
-        self.cells[rank as usize].number()
+        self.cells[rank as usize].factor()
     }
 
     /// The least rank without a Value.
@@ -96,7 +104,7 @@ impl Table {
         ensures within { IfSome result (λ r. r < length self.now) }
     {
         for rank in 0..self.len() {
-            match self.number(rank) {
+            match self.factor(rank) {
                 Some(_) => {}
                 None => return Some(rank),
             }

@@ -1,12 +1,11 @@
 -- The first seat of a session's boards, whose receipts begin with the carried ranks.
-use Rattle.std.proofs.Common.{◌≡◌, ℕ, ◌<◌, ◌≤◌, List, [], ◌∷◌, ◌++◌, length, length-append, get_or, Option, arith, refl, sym, ap, ap₂, ◌∙◌, subst, append-nil}
 use Rattle.cell_words.specs.Closings.{AreOf, receipt_at}
 use Rattle.cell_words.specs.Resuming.{AreBegun, AreNew, carried_in}
 use Rattle.cell_words.specs.declared.view.Standing.{Standing}
 use Rattle.fill_crew.specs.Crews.{BeginsWith, HasWorked, AreSwept}
 use Rattle.fill_crew.proofs.CrewLemmas.{begins_more, snoc-both}
 use Rattle.cell_words.proofs.ResumeLemmas.{nothing_carried}
-use Rattle.ask_seats.proofs.Names.{Planning, key_at, Outcome, carried_of, standing_of, Closed, Countdown, CountSeat, euler_of, cells, IsPartial, Leads, LeavesFirst, KeepsCarried, IsPart, Paused, Line, Grow}
+use Rattle.ask_seats.proofs.Names.{◌≡◌, ℕ, ◌<◌, ◌≤◌, List, [], ◌∷◌, ◌++◌, length, length-append, get_or, Option, arith, refl, sym, ap, ap₂, ◌∙◌, subst, append-nil, Planning, key_at, Outcome, carried_of, standing_of, Closed, Countdown, CountSeat, euler_of, cells, IsPartial, Leads, LeavesFirst, KeepsCarried, IsPart, Paused, Line, Grow}
 use Rattle.ask_seats.specs.Carrying.{CarriesSettled, plan_behind, anew, resumed}
 use Rattle.ask_seats.proofs.SessionLemmas.{bound-last, finished-last}
 

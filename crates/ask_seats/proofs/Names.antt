@@ -1,4 +1,5 @@
 -- The names that most proofs cite, passed on from one place. Declares nothing.
+pub use Rattle.std.proofs.Common.{◌≡◌, ℕ, ◌<◌, ◌≤◌, List, [], ◌∷◌, ◌++◌, length, length-append, get_or, Option, arith, refl, sym, ap, ap₂, ◌∙◌, subst, append-nil, cond, true, false, ◌⊎◌, inl, inr, Bool, map, None, Some, is_some, zero, suc, ◌+◌, take, drop, append_assoc, take-append-drop, Result, Ok, Err, OnOk, OnErr, true≢false, ◌≢◌, ltb-true, ltb-false, lt-ltb, le-ltb, ◌&&◌, nat_eq, IsTrue, ltb, rules, take_all, le-leb, leb, IfOk, IfErr, ◌-◌, length-drop, get_or-drop}
 pub use Rattle.std.proofs.lemmas.List.{take_more, drop_more}
 pub use Rattle.std.specs.Io.KnownBytes.{Appends}
 pub use Rattle.airy_io.specs.Causes.{AppendsPrefix, Rose, Taking}

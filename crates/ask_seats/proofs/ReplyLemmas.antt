@@ -1,7 +1,6 @@
 -- Replies line by line.
-use Rattle.std.proofs.Common.{cond, true, false, ◌≡◌, ◌⊎◌, inl, inr, ℕ, ◌<◌, ◌≤◌, List, [], ◌∷◌, ◌++◌, arith, refl, sym, ap, subst, ◌∙◌}
 use Rattle.amp_plan.specs.Limits.{Limit, Within, PassesBound, PassesCells, PassesNeeds}
-use Rattle.ask_seats.proofs.Names.{AreAsks, Key, Tensors, limit, Reply, Stage, Replied, finish, behind, growth, grown, bound_after, Rises, Line, Ask, Finish, Grow}
+use Rattle.ask_seats.proofs.Names.{cond, true, false, ◌≡◌, ◌⊎◌, inl, inr, ℕ, ◌<◌, ◌≤◌, List, [], ◌∷◌, ◌++◌, arith, refl, sym, ap, subst, ◌∙◌, AreAsks, Key, Tensors, limit, Reply, Stage, Replied, finish, behind, growth, grown, bound_after, Rises, Line, Ask, Finish, Grow}
 use Rattle.ask_seats.specs.Sessions.{gives}
 use Rattle.ask_seats.specs.Replies.{Value, Over, Blocked, NotYet, Zero, Beyond, BadIndex, GrownTo, ManyCells, ManyNeeds}
 

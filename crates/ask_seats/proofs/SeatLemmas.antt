@@ -1,5 +1,4 @@
 -- Seats of a countdown board before and behind some asks, and the table that the board leaves.
-use Rattle.std.proofs.Common.{◌≡◌, ◌⊎◌, inl, inr, ℕ, ◌<◌, Bool, true, false, List, [], ◌∷◌, ◌++◌, length, length-append, map, get_or, Option, None, Some, arith, refl, sym, ap, ◌∙◌, subst, is_some, cond}
 use Rattle.std.proofs.Math.ListN.{get_or-map}
 use Rattle.std.proofs.Math.Seq.{get_or-append_seam}
 use Rattle.std.proofs.lemmas.List.{length-map, get_or_default}
@@ -11,7 +10,7 @@ use Rattle.cell_words.specs.Deals.{SomeKnows}
 use Rattle.cell_words.specs.declared.view.Standing.{Standing}
 use Rattle.fill_crew.specs.Crews.{IsBack}
 use Rattle.fill_crew.proofs.CrewLemmas.{last_idle, rejoined}
-use Rattle.ask_seats.proofs.Names.{Planning, tensors_of, full_table, Carried, Outcome, AreAll, cells, outcome_at, IsPartial, IsSeatOf, standing_of, view_of, Countdown, CountSeat}
+use Rattle.ask_seats.proofs.Names.{◌≡◌, ◌⊎◌, inl, inr, ℕ, ◌<◌, Bool, true, false, List, [], ◌∷◌, ◌++◌, length, length-append, map, get_or, Option, None, Some, arith, refl, sym, ap, ◌∙◌, subst, is_some, cond, Planning, tensors_of, full_table, Carried, Outcome, AreAll, cells, outcome_at, IsPartial, IsSeatOf, standing_of, view_of, Countdown, CountSeat}
 
 module _ (b : Countdown) (s t : CountSeat) (same : standing_of t ≡ standing_of s) where
   pub same_back : s.held ≡ None → IsSeatOf b t → IsBack b s t
@@ -26,14 +25,6 @@ pub joined_again : (b : Countdown) (crew back : List CountSeat) (seat asked told
 joined_again b crew back seat asked told mine all e len backs seat_of same is =
     rejoined b (crew ++ seat ∷ []) crew seat all refl back mine len backs
     (subst (IsBack b seat) (sym is) (same_back b seat told (same ∙ ap standing_of e) (last_idle b (crew ++ seat ∷ []) crew seat all refl).1 seat_of))
-
--- a table in which some ranks have their outcomes
-pub partial_is : (p : Planning) (t : List (Option Outcome)) (f : ℕ → Bool) → length t ≡ cells p → ((r : ℕ) → r < cells p → get_or t r None ≡ cond (f r) (Some (outcome_at p r)) None) → IsPartial p t
-partial_is p t f long h = record { long = long; each = λ r l. by r (f r) (h r l) }
-  where
-    by : (r : ℕ) (b : Bool) → get_or t r None ≡ cond b (Some (outcome_at p r)) None → (get_or t r None ≡ None) ⊎ (get_or t r None ≡ Some (outcome_at p r))
-    by r true e = inr e
-    by r false e = inl e
 
 -- what each of some seats has, the last has
 pub last_has : (P : CountSeat → Type 0) (made rest : List CountSeat) (own : CountSeat) → made ≡ rest ++ own ∷ [] → ((j : ℕ) (d : CountSeat) → j < length made → P (get_or made j d)) → P own

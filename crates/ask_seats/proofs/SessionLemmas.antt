@@ -1,12 +1,11 @@
 -- The parts of a session.
-use Rattle.std.proofs.Common.{◌≡◌, ◌⊎◌, inl, inr, ℕ, zero, suc, ◌<◌, ◌≤◌, ◌+◌, Bool, true, false, List, [], ◌∷◌, ◌++◌, take, drop, length, get_or, Option, Some, None, arith, refl, sym, ap, ap₂, ◌∙◌, subst, append-nil, append_assoc, take-append-drop, Result, Ok, Err, OnOk, OnErr}
 use Rattle.std.proofs.KnownBytes.{Appends-trans}
 use Rattle.airy_io.proofs.Prefixes.{AppendsPrefix-more}
 use Rattle.airy_math.proofs.PlanOrderLaw.{levels}
-use Rattle.ask_seats.proofs.Names.{drop_more, Appends, AppendsPrefix, Taking, Key, euler_of, IsPlanned, Tensors, StandsIn, limit, Planning, tensors_of, keys_of, key_at, Outcome, cells, Reply, line_text, lines_text, Session, Stage, Replied, IsAdmitted, Admitted, IsOrRestsOn, start, behind, finish, growth, grown, bound_after, bound_behind, finished_behind, session_of, AreAsks, FinishesOnce, Rises, ends_finished, Spoken, CutShort, IsPart, replies_due, IsGood, Stands, stage_after, Wrote, Broke, Speaks, FallsSilent, Carried, Paused, GoesOn, up_to, Line, Ask, Finish, Grow}
+use Rattle.ask_seats.proofs.Names.{◌≡◌, ◌⊎◌, inl, inr, ℕ, zero, suc, ◌<◌, ◌≤◌, ◌+◌, Bool, true, false, List, [], ◌∷◌, ◌++◌, take, drop, length, length-append, get_or, Option, Some, None, arith, refl, sym, ap, ap₂, ◌∙◌, subst, append-nil, append_assoc, take-append-drop, Result, Ok, Err, OnOk, OnErr, drop_more, Appends, AppendsPrefix, Taking, Key, euler_of, IsPlanned, Tensors, StandsIn, limit, Planning, tensors_of, keys_of, key_at, Outcome, cells, Reply, line_text, lines_text, Session, Stage, Replied, IsAdmitted, Admitted, IsOrRestsOn, start, behind, finish, growth, grown, bound_after, bound_behind, finished_behind, session_of, AreAsks, FinishesOnce, Rises, ends_finished, Spoken, CutShort, IsPart, replies_due, IsGood, Stands, stage_after, Wrote, Broke, Speaks, FallsSilent, Carried, Paused, GoesOn, up_to, Line, Ask, Finish, Grow}
 use Rattle.ask_seats.specs.Asks.{StopsAtGrow}
 use Rattle.ask_seats.proofs.ReplyLemmas.{rises-asks, behind-bound, behind-finished, grows-up, rises-lower}
-use Rattle.ask_seats.proofs.SpeakLemmas.{stands-map, replied-append, after-append, text-append, complete, good-start, good-finish, good-grown, good-along, lower}
+use Rattle.ask_seats.proofs.SpeakLemmas.{stands-map, along, replied-append, after-append, text-append, complete, good-start, good-finish, good-grown, good-along, lower}
 use Rattle.airy_math.specs.Ranks as ranks
 
 -- ---- lines of a part
@@ -152,14 +151,8 @@ due-snoc (Finish ∷ lines) line = due-snoc lines line
 due-snoc (Grow X ∷ lines) line = elim (due-snoc lines line) [ inl e ↦ inl (e.0, ap suc e.1) | inr e ↦ inr (e.0, ap suc e.1 ∙ (let s : suc (replies_due lines + 1) ≡ suc (replies_due lines) + 1 = omega arith in s)) ]
 
 due : (T : Tensors) (P : Stage → Key → Reply → Type 0) (st : Stage) (lines : List Line) (replies : List Reply) → Replied T P st lines replies → replies_due lines ≡ length replies
-unfolding replies_due Replied
-due T P st [] [] r = refl
-due T P st [] (reply ∷ replies) r = absurd r
-due T P st (Finish ∷ lines) replies r = due T P (finish st) lines replies r
-due T P st (Ask key ∷ lines) [] r = absurd r
-due T P st (Ask key ∷ lines) (reply ∷ replies) r = ap suc (due T P (behind st key reply) lines replies r.1)
-due T P st (Grow X ∷ lines) [] r = absurd r
-due T P st (Grow X ∷ lines) (reply ∷ replies) r = ap suc (due T P (grown T X st) lines replies r.1)
+unfolding replies_due
+due T P = along T P (λ st ls rs. replies_due ls ≡ length rs) (λ st. refl) (λ st ls rs k. k) (λ st key r ls rs p k. ap suc k) (λ st Y r ls rs e k. ap suc k)
 
 -- ---- where a session stands
 
@@ -222,26 +215,15 @@ stands-grown p crew Knows st Y h k =
     (good-grown (session_of p crew) st Y (subst (λ X. X ≤ Y) (sym k.bound) h) k.good))
 
 pub bound-stage : (T : Tensors) (P : Stage → Key → Reply → Type 0) (st : Stage) (lines : List Line) (replies : List Reply) → Replied T P st lines replies → (stage_after T st lines replies).bound ≡ bound_behind T st.bound lines
-unfolding Replied stage_after bound_behind finish grown
-bound-stage T P st [] [] r = refl
-bound-stage T P st [] (reply ∷ replies) r = absurd r
-bound-stage T P st (Finish ∷ lines) replies r = bound-stage T P (finish st) lines replies r
-bound-stage T P st (Ask key ∷ lines) [] r = absurd r
-bound-stage T P st (Ask key ∷ lines) (reply ∷ replies) r = bound-stage T P (behind st key reply) lines replies r.1 ∙ ap (λ X. bound_behind T X lines) (behind-bound st key reply)
-bound-stage T P st (Grow X ∷ lines) [] r = absurd r
-bound-stage T P st (Grow X ∷ lines) (reply ∷ replies) r = bound-stage T P (grown T X st) lines replies r.1
+unfolding stage_after bound_behind finish grown
+bound-stage T P =
+    along T P (λ st ls rs. (stage_after T st ls rs).bound ≡ bound_behind T st.bound ls) (λ st. refl) (λ st ls rs k. k) (λ st key r ls rs p k. k ∙ ap (λ X. bound_behind T X ls) (behind-bound st key r)) (λ st Y r ls rs e k. k)
 
 pub finished-stage : (T : Tensors) (P : Stage → Key → Reply → Type 0) (st : Stage) (lines : List Line) (replies : List Reply) → Replied T P st lines replies
     → (stage_after T st lines replies).finished ≡ finished_behind T st.bound st.finished lines
-unfolding Replied stage_after finished_behind finish grown
-finished-stage T P st [] [] r = refl
-finished-stage T P st [] (reply ∷ replies) r = absurd r
-finished-stage T P st (Finish ∷ lines) replies r = finished-stage T P (finish st) lines replies r
-finished-stage T P st (Ask key ∷ lines) [] r = absurd r
-finished-stage T P st (Ask key ∷ lines) (reply ∷ replies) r =
-    finished-stage T P (behind st key reply) lines replies r.1 ∙ ap₂ (λ X f. finished_behind T X f lines) (behind-bound st key reply) (behind-finished st key reply)
-finished-stage T P st (Grow X ∷ lines) [] r = absurd r
-finished-stage T P st (Grow X ∷ lines) (reply ∷ replies) r = finished-stage T P (grown T X st) lines replies r.1
+unfolding stage_after finished_behind finish grown
+finished-stage T P = along T P (λ st ls rs. (stage_after T st ls rs).finished ≡ finished_behind T st.bound st.finished ls) (λ st. refl) (λ st ls rs k. k)
+    (λ st key r ls rs p k. k ∙ ap₂ (λ X f. finished_behind T X f ls) (behind-bound st key r) (behind-finished st key r)) (λ st Y r ls rs e k. k)
 
 -- ---- the two halves of a part
 
@@ -271,7 +253,7 @@ module _ (p : Planning) (crew : ℕ) (f g : Option ℕ) (Knew Knows : ℕ → Ty
   }
 
 longer : (a b : Option (List ℕ)) (xs ys : List ℕ) → AppendsPrefix a b xs → AppendsPrefix a b (xs ++ ys)
-longer a b xs ys h = (h.0, omega (arith, h.1, Rattle.std.proofs.Common.length-append xs ys), subst (Appends a b) (sym (Rattle.std.proofs.lemmas.List.take-append-le h.0 xs ys h.1)) h.2)
+longer a b xs ys h = (h.0, omega (arith, h.1, length-append xs ys), subst (Appends a b) (sym (Rattle.std.proofs.lemmas.List.take-append-le h.0 xs ys h.1)) h.2)
 
 -- where the sink failed among the first lines, the replies to the others are any that are admitted
 pub broke-before : (p : Planning) (crew : ℕ) (st : Stage) (first rest : List Line) (old new : Option (List ℕ)) → IsGood (session_of p crew) st → Rises st.bound (first ++ rest) → Broke p crew st first old new → Broke p crew st (first ++ rest) old new

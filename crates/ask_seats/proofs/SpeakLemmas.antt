@@ -1,5 +1,4 @@
 -- What a session says is admitted.
-use Rattle.std.proofs.Common.{true≢false, ◌≡◌, ◌≢◌, ◌⊎◌, inl, inr, ℕ, ◌<◌, ◌≤◌, Bool, true, false, List, [], ◌∷◌, ◌++◌, Option, Some, None, arith, refl, sym, ap, ◌∙◌, subst, append_assoc, ltb-true, ltb-false, lt-ltb, le-ltb, cond, ◌&&◌, nat_eq, IsTrue, ltb}
 use Rattle.std.proofs.lemmas.Bool.{cases_lt, and_parts}
 use lib.ListN.{get_or}
 use Rattle.airy_math.specs.Shapes.{covers}
@@ -9,7 +8,7 @@ use Rattle.airy_math.specs.Terms.{RestsOn}
 use Rattle.amp_plan.specs.Places.{are_below}
 use Rattle.amp_terms.specs.Outcomes.{outcomes}
 use Rattle.amp_plan.proofs.PlaceLemmas.{at_rank, rank_within, key_of_rank}
-use Rattle.ask_seats.proofs.Names.{Key, euler_of, Tensors, IsPlanned, limit, ListsPlanned, place_of, StandsIn, IsKey, Planning, tensors_of, keys_of, key_at, place_in, Place, Outcome, cells, Reaches, Reply, line_text, lines_text, Session, Stage, Replied, IsAdmitted, IsOrRestsOn, start, finish, growth, grown, bound_after, behind, told, told_at, outcome_reply, place_at, is_rank, is_open, is_unsettled, session_of, Rises, told_of, holds_back, Hears, IsGood, Stands, stage_after, Line, Ask, Finish, Grow}
+use Rattle.ask_seats.proofs.Names.{true≢false, ◌≡◌, ◌≢◌, ◌⊎◌, inl, inr, ℕ, ◌<◌, ◌≤◌, Bool, true, false, List, [], ◌∷◌, ◌++◌, Option, Some, None, arith, refl, sym, ap, ◌∙◌, subst, append_assoc, ltb-true, ltb-false, lt-ltb, le-ltb, cond, ◌&&◌, nat_eq, IsTrue, ltb, Key, euler_of, Tensors, IsPlanned, limit, ListsPlanned, place_of, StandsIn, IsKey, Planning, tensors_of, keys_of, key_at, place_in, Place, Outcome, cells, Reaches, Reply, line_text, lines_text, Session, Stage, Replied, IsAdmitted, IsOrRestsOn, start, finish, growth, grown, bound_after, behind, told, told_at, outcome_reply, place_at, is_rank, is_open, is_unsettled, session_of, Rises, told_of, holds_back, Hears, IsGood, Stands, stage_after, Line, Ask, Finish, Grow}
 use Rattle.ask_seats.specs.Replies.{Value, Over, Blocked, NotYet, Zero, Beyond, BadIndex, GrownTo, ManyCells, ManyNeeds}
 use Rattle.ask_seats.specs.Talks.{tells, misses, waits}
 use Rattle.ask_seats.proofs.PlaceLemmas.{same_place}
@@ -19,25 +18,29 @@ use Rattle.amp_terms.specs.declared.Outcome.TheVariants as outcome
 
 -- ---- lists of replies
 
+-- what holds where there are no lines, and at each line where it holds behind it, holds along all lines with their replies
+module _ (T : Tensors) (P : Stage → Key → Reply → Type 0) (Q : Stage → List Line → List Reply → Type 0) (none : (st : Stage) → Q st [] []) (done : (st : Stage) (ls : List Line) (rs : List Reply) → Q (finish st) ls rs → Q st (Finish ∷ ls) rs)
+    (ask : (st : Stage) (key : Key) (r : Reply) (ls : List Line) (rs : List Reply) → P st key r → Q (behind st key r) ls rs → Q st (Ask key ∷ ls) (r ∷ rs))
+    (grow : (st : Stage) (Y : ℕ) (r : Reply) (ls : List Line) (rs : List Reply) → r ≡ growth (limit T Y) Y → Q (grown T Y st) ls rs → Q st (Grow Y ∷ ls) (r ∷ rs)) where
+  pub along : (st : Stage) (ls : List Line) (rs : List Reply) → Replied T P st ls rs → Q st ls rs
+  unfolding Replied
+  along st [] [] h = none st
+  along st [] (r ∷ rs) h = absurd h
+  along st (Finish ∷ ls) rs h = done st ls rs (along (finish st) ls rs h)
+  along st (Ask key ∷ ls) [] h = absurd h
+  along st (Ask key ∷ ls) (r ∷ rs) h = ask st key r ls rs h.0 (along (behind st key r) ls rs h.1)
+  along st (Grow Y ∷ ls) [] h = absurd h
+  along st (Grow Y ∷ ls) (r ∷ rs) h = grow st Y r ls rs h.0 (along (grown T Y st) ls rs h.1)
+
 pub replied-append : (T : Tensors) (P : Stage → Key → Reply → Type 0) (st : Stage) (ls ms : List Line) (rs qs : List Reply) → Replied T P st ls rs → Replied T P (stage_after T st ls rs) ms qs → Replied T P st (ls ++ ms) (rs ++ qs)
 unfolding Replied stage_after
-replied-append T P st [] ms [] qs h k = k
-replied-append T P st [] ms (r ∷ rs) qs h k = absurd h
-replied-append T P st (Finish ∷ ls) ms rs qs h k = replied-append T P (finish st) ls ms rs qs h k
-replied-append T P st (Ask key ∷ ls) ms [] qs h k = absurd h
-replied-append T P st (Ask key ∷ ls) ms (r ∷ rs) qs h k = (h.0, replied-append T P (behind st key r) ls ms rs qs h.1 k)
-replied-append T P st (Grow Y ∷ ls) ms [] qs h k = absurd h
-replied-append T P st (Grow Y ∷ ls) ms (r ∷ rs) qs h k = (h.0, replied-append T P (grown T Y st) ls ms rs qs h.1 k)
+replied-append T P st ls ms rs qs h =
+    along T P (λ st ls rs. Replied T P (stage_after T st ls rs) ms qs → Replied T P st (ls ++ ms) (rs ++ qs)) (λ st k. k) (λ st ls rs k. k) (λ st key r ls rs p k rest. (p, k rest)) (λ st Y r ls rs e k rest. (e, k rest)) st ls rs h
 
 pub after-append : (T : Tensors) (P : Stage → Key → Reply → Type 0) (st : Stage) (ls ms : List Line) (rs qs : List Reply) → Replied T P st ls rs → stage_after T st (ls ++ ms) (rs ++ qs) ≡ stage_after T (stage_after T st ls rs) ms qs
-unfolding Replied stage_after
-after-append T P st [] ms [] qs h = refl
-after-append T P st [] ms (r ∷ rs) qs h = absurd h
-after-append T P st (Finish ∷ ls) ms rs qs h = after-append T P (finish st) ls ms rs qs h
-after-append T P st (Ask key ∷ ls) ms [] qs h = absurd h
-after-append T P st (Ask key ∷ ls) ms (r ∷ rs) qs h = after-append T P (behind st key r) ls ms rs qs h.1
-after-append T P st (Grow Y ∷ ls) ms [] qs h = absurd h
-after-append T P st (Grow Y ∷ ls) ms (r ∷ rs) qs h = after-append T P (grown T Y st) ls ms rs qs h.1
+unfolding stage_after
+after-append T P st ls ms rs qs h =
+    along T P (λ st ls rs. stage_after T st (ls ++ ms) (rs ++ qs) ≡ stage_after T (stage_after T st ls rs) ms qs) (λ st. refl) (λ st ls rs k. k) (λ st key r ls rs p k. k) (λ st Y r ls rs e k. k) st ls rs h
 
 pub text-append : (rs qs : List Reply) → lines_text (rs ++ qs) ≡ lines_text rs ++ lines_text qs
 unfolding lines_text
@@ -356,19 +359,15 @@ good-admitted s st key reply false e g a = by a.said
 -- a stage stays good, and the bounds of the lines behind it rise
 pub good-along : (s : Session) (st : Stage) (lines rest : List Line) (replies : List Reply) → IsGood s st → Rises st.bound (lines ++ rest) → Replied s.tensors (IsAdmitted s) st lines replies
     → IsGood s (stage_after s.tensors st lines replies) × Rises (stage_after s.tensors st lines replies).bound rest
-unfolding Replied Rises stage_after finish grown
-good-along s st [] rest [] g up r = (g, up)
-good-along s st [] rest (reply ∷ replies) g up r = absurd r
-good-along s st (Finish ∷ lines) rest replies g up r = good-along s (finish st) lines rest replies (good-finish s st g) up r
-good-along s st (Ask key ∷ lines) rest [] g up r = absurd r
-good-along s st (Ask key ∷ lines) rest (reply ∷ replies) g up r =
-    good-along s (behind st key reply) lines rest replies (good-admitted s st key reply (nat_eq s.crew 0 && is_unsettled s st key) refl g r.0)
-    (subst (λ X. Rises X (lines ++ rest)) (sym (behind-bound st key reply)) up) r.1
-good-along s st (Grow Y ∷ lines) rest [] g up r = absurd r
-good-along s st (Grow Y ∷ lines) rest (reply ∷ replies) g up r =
-    let low : st.bound ≤ Y = omega (arith, up.0) in
-    good-along s (grown s.tensors Y st) lines rest replies (good-grown s st Y low g)
-    (rises-lower (bound_after (limit s.tensors Y) st.bound Y) Y (lines ++ rest) (grows-up (limit s.tensors Y) st.bound Y low).1 up.2) r.1
+unfolding Rises stage_after finish grown
+good-along s st lines rest replies g up r = along s.tensors (IsAdmitted s)
+    (λ st ls rs. IsGood s st → Rises st.bound (ls ++ rest) → IsGood s (stage_after s.tensors st ls rs) × Rises (stage_after s.tensors st ls rs).bound rest)
+    (λ st g up. (g, up))
+    (λ st ls rs k g up. k (good-finish s st g) up)
+    (λ st key reply ls rs a k g up. k (good-admitted s st key reply (nat_eq s.crew 0 && is_unsettled s st key) refl g a) (subst (λ X. Rises X (ls ++ rest)) (sym (behind-bound st key reply)) up))
+    (λ st Y reply ls rs e k g up. let low : st.bound ≤ Y = omega (arith, up.0) in
+    k (good-grown s st Y low g) (rises-lower (bound_after (limit s.tensors Y) st.bound Y) Y (ls ++ rest) (grows-up (limit s.tensors Y) st.bound Y low).1 up.2))
+    st lines replies r g up
 
 pub good-start : (s : Session) (X : ℕ) → IsGood s (start X)
 unfolding StandsIn

@@ -1,8 +1,7 @@
 -- The lines of a session, one reply after another.
-use Rattle.std.proofs.Common.{◌≡◌, ℕ, zero, suc, ◌<◌, ◌≤◌, ◌+◌, Bool, List, [], ◌∷◌, ◌++◌, take, drop, length, get_or, Option, Some, None, arith, refl, sym, ap, ◌∙◌, subst, append-nil, take-append-drop}
 use Rattle.std.proofs.KnownBytes.{Appends-trans}
 use Rattle.airy_io.proofs.Prefixes.{AppendsPrefix-more}
-use Rattle.ask_seats.proofs.Names.{drop_more, Appends, AppendsPrefix, Key, ListsPlanned, Tensors, IsKey, Planning, tensors_of, Reply, line_text, lines_text, Stage, Replied, IsAdmitted, behind, finish, session_of, AreAsks, Rises, Hears, Stands, stage_after, Wrote, Broke, Line, Ask, Finish, Grow}
+use Rattle.ask_seats.proofs.Names.{◌≡◌, ℕ, zero, suc, ◌<◌, ◌≤◌, ◌+◌, Bool, List, [], ◌∷◌, ◌++◌, take, drop, length, get_or, Option, Some, None, arith, refl, sym, ap, ◌∙◌, subst, append-nil, take-append-drop, drop_more, Appends, AppendsPrefix, Key, ListsPlanned, Tensors, IsKey, Planning, tensors_of, Reply, line_text, lines_text, Stage, Replied, IsAdmitted, behind, finish, session_of, AreAsks, Rises, Hears, Stands, stage_after, Wrote, Broke, Line, Ask, Finish, Grow}
 use Rattle.ask_seats.proofs.ReplyLemmas.{behind-finished, rises-asks}
 use Rattle.ask_seats.proofs.SpeakLemmas.{replied-append, after-append, text-append, hear-admitted, complete}
 

@@ -75,7 +75,8 @@ pub data Hears (p : Planning) (crew : ℕ) (finished : Option ℕ) (key : Key) (
   -- `not yet`, of a planned key that the seat had not known
   misses : reply ≡ NotYet → (r : ℕ) → IsAt p key r → (Knew r → ⊥) → Hears p crew finished key Knew Knows reply
   -- `not yet`, of a planned key that waits without workers
-  waits : reply ≡ NotYet → (r : ℕ) → IsAt p key r → holds_back crew finished (euler_of key) ≡ true → Hears p crew finished key Knew Knows reply
+  waits : reply ≡ NotYet → (r : ℕ) → IsAt p key r → holds_back crew finished (euler_of key) ≡ true
+      → Hears p crew finished key Knew Knows reply
 
 -- What an ask told was written, or a prefix of its line was.
 pub record IsSaid (p : Planning) (crew : ℕ) (finished : Option ℕ) (key : Key) (Knew Knows : ℕ → Type 0)
@@ -128,7 +129,8 @@ pub record Broke (p : Planning) (crew : ℕ) (stage : Stage) (lines : List Line)
   pub cut : AppendsPrefix old new (lines_text replies)
 
 -- a seat that stood at a stage with one bound at the last `finish` wrote the lines' replies, and stands behind them with another
-abbrev pub Writes : Planning → ℕ → Option ℕ → Option ℕ → (ℕ → Type 0) → (ℕ → Type 0) → List Line → Option (List ℕ) → Option (List ℕ) → Type 0
+abbrev pub Writes : Planning → ℕ → Option ℕ → Option ℕ → (ℕ → Type 0) → (ℕ → Type 0) → List Line → Option (List ℕ)
+    → Option (List ℕ) → Type 0
 Writes p crew finished after Knew Knows lines old new =
     (stage : Stage) → Stands p crew Knew stage → stage.finished ≡ finished → Wrote p crew after Knows stage lines old new
 

@@ -1,6 +1,6 @@
 -- The diagonal tensors, set index by index.
 use Rattle.std.proofs.Common.{◌≡◌, ℕ, ◌+◌, ◌*◌, ◌%◌, ◌<◌, ◌≤◌, ◌⊎◌, inl, inr, Bool, true, false, ◌&&◌, eqb, ltb, List, get_or, length, replicate, refl, sym, ap, subst, ◌∙◌, arith, pos, set, length-set, get_or-set_same, get_or-set_other}
-use Rattle.std.proofs.lemmas.Bool.{cases_eq}
+use Rattle.std.proofs.lemmas.Bool.{cases_eq, lt-ltb}
 use Rattle.std.proofs.lemmas.Bool.Decides.{nat_tests}
 use Rattle.std.proofs.lemmas.List.{length-replicate, get_or-replicate}
 use Rattle.airy_math.specs.Rational.{ℚ, whole, ◌/ℚ◌}
@@ -11,7 +11,7 @@ use Rattle.bulk_tensors.specs.Bulk.{on_diagonal, diagonal}
 use Rattle.bulk_tensors.specs.Draws.{draw}
 use Rattle.bulk_tensors.specs.Full.{Lists, entry, listed, zero_lists, with_diagonal}
 use Rattle.bulk_tensors.proofs.FullLemmas.{entry-set_same, entry-set_other}
-use Rattle.bulk_tensors.proofs.FilledLemmas.{before_more, is_before}
+use Rattle.bulk_tensors.proofs.FilledLemmas.{before_more}
 use Rattle.airy_math.proofs.SumLemmas.{when_true, when_false}
 
 -- the list has f on the diagonal before n, and 0 elsewhere
@@ -24,7 +24,7 @@ unfolding on_diagonal
 here f n i j k p q r =
     ap f (sym p)
     ∙ sym (when_true (eqb i j && eqb i k) (f i) (grind (arith, nat_tests)))
-    ∙ sym (when_true (ltb i (n + 1)) _ (is_before i (n + 1) (omega arith)))
+    ∙ sym (when_true (ltb i (n + 1)) _ (lt-ltb i (n + 1) (omega arith)))
 
 off : (f : ℕ → ℚ) (i j k : ℕ) → (i ≡ j → i ≡ k → ⊥) → on_diagonal f i j k ≡ 0ℚ
 unfolding on_diagonal
@@ -61,7 +61,7 @@ row_next : (n : ℕ) (f : ℕ → ℚ) (l : List ℚ) (v : ℚ) → n < 8 → v 
 row_next n f l v small e h = record { long = length-set l n v ∙ h.long; at = λ i p. by i p (cases_eq i n) }
   where
     by : (i : ℕ) → i < 8 → (i ≡ n) ⊎ (i ≡ n → ⊥) → get_or (set l n v) i 0ℚ ≡ when (ltb i (n + 1)) (f i)
-    by i p (inl x) = ap (λ m. get_or (set l n v) m 0ℚ) x ∙ get_or-set_same l n v 0ℚ (omega (arith, h.long)) ∙ e ∙ ap f (sym x) ∙ sym (when_true (ltb i (n + 1)) (f i) (is_before i (n + 1) (omega arith)))
+    by i p (inl x) = ap (λ m. get_or (set l n v) m 0ℚ) x ∙ get_or-set_same l n v 0ℚ (omega (arith, h.long)) ∙ e ∙ ap f (sym x) ∙ sym (when_true (ltb i (n + 1)) (f i) (lt-ltb i (n + 1) (omega arith)))
     by i p (inr x) = get_or-set_other l n i v 0ℚ x ∙ h.at i p ∙ ap (λ b. when b (f i)) (before_more i n x)
 
 row_none : (f : ℕ → ℚ) → IsRow 0 f (replicate 8 0ℚ)
@@ -97,10 +97,10 @@ unfolding listed diagonal
 set_all seed dim t most h = record {
   dim = h.dim_is;
   shape = refl;
-  A = λ i j k p q r. h.a.at i j k (below i p) (below j q) (below k r) ∙ when_true (ltb i dim) _ (is_before i dim (within i p));
-  B = λ i j k p q r. h.b.at i j k (below i p) (below j q) (below k r) ∙ when_true (ltb i dim) _ (is_before i dim (within i p));
-  C = λ i j k p q r. h.c.at i j k (below i p) (below j q) (below k r) ∙ when_true (ltb i dim) _ (is_before i dim (within i p));
-  D = λ i p. h.d.at i (below i p) ∙ when_true (ltb i dim) _ (is_before i dim (within i p));
+  A = λ i j k p q r. h.a.at i j k (below i p) (below j q) (below k r) ∙ when_true (ltb i dim) _ (lt-ltb i dim (within i p));
+  B = λ i j k p q r. h.b.at i j k (below i p) (below j q) (below k r) ∙ when_true (ltb i dim) _ (lt-ltb i dim (within i p));
+  C = λ i j k p q r. h.c.at i j k (below i p) (below j q) (below k r) ∙ when_true (ltb i dim) _ (lt-ltb i dim (within i p));
+  D = λ i p. h.d.at i (below i p) ∙ when_true (ltb i dim) _ (lt-ltb i dim (within i p));
 }
   where
     within : (n : ℕ) → n < t.dim → n < dim

@@ -1,6 +1,6 @@
 -- The entries of full tensors, put place by place.
 use Rattle.std.proofs.Common.{◌≡◌, ℕ, ◌+◌, ◌*◌, ◌/◌, ◌%◌, ◌<◌, ◌≤◌, ◌⊎◌, inl, inr, Bool, true, false, cond, eqb, ltb, leb, List, get_or, refl, sym, ap, ap₂, subst, ◌∙◌, arith, min, max}
-use Rattle.std.proofs.lemmas.Bool.{cases_eq, cases_lt}
+use Rattle.std.proofs.lemmas.Bool.{cases_eq, cases_lt, lt-ltb}
 use Rattle.std.proofs.lemmas.Bool.Decides.{nat_tests}
 use Rattle.airy_math.specs.Rational.{ℚ}
 use Rattle.airy_math.specs.RationalLaws.{0ℚ}
@@ -62,9 +62,6 @@ stored_else grade dim es i j k v a b c h zero other = by (is_zero v)
 pub before_more : (n p : ℕ) → (n ≡ p → ⊥) → ltb n p ≡ ltb n (p + 1)
 before_more n p h = grind (arith, nat_tests)
 
-pub is_before : (n p : ℕ) → n < p → ltb n p ≡ true
-is_before n p h = grind (arith, nat_tests)
-
 is_here : (n : ℕ) → ltb n n ≡ false
 is_here n = grind (arith, nat_tests)
 
@@ -90,7 +87,7 @@ filled_next grade dim n i j k F es v sound most p q r e h = λ a b c s t u. by a
         ∙ stored_here grade n es i j k v sound zero
         ∙ e
         ∙ sym (ap₂ (λ m n. F m n c) first second ∙ ap (F i j) third)
-        ∙ sym (when_true (ltb (64 * a + 8 * b + c) (64 * i + 8 * j + k + 1)) (F a b c) (is_before _ _ (omega arith)))
+        ∙ sym (when_true (ltb (64 * a + 8 * b + c) (64 * i + 8 * j + k + 1)) (F a b c) (lt-ltb _ _ (omega arith)))
     by a b c s t u (inr x) =
         stored_else grade n es i j k v a b c sound zero (λ l m o. x (omega arith))
         ∙ h a b c s t u
@@ -258,13 +255,13 @@ filled_d from t i v sound p e h =
     free = not_given_from_zero (keeps_d t.shape) t.dim t.d i sound.d.stored (d_zero i from t p h)
 
     by : (n : ℕ) → n < from.dim → (n ≡ i) ⊎ (n ≡ i → ⊥) → (z : Bool) → is_zero v ≡ z → value_of (cond z t.d (with_value i v t.d)) n ≡ when (ltb n (i + 1)) (get_or from.d n 0ℚ)
-    by n q (inl x) true w = ap (value_of t.d) x ∙ d_zero i from t p h ∙ sym (zero_number v w) ∙ e ∙ ap (λ m. get_or from.d m 0ℚ) (sym x) ∙ sym (when_true (ltb n (i + 1)) (get_or from.d n 0ℚ) (is_before n (i + 1) (omega arith)))
+    by n q (inl x) true w = ap (value_of t.d) x ∙ d_zero i from t p h ∙ sym (zero_number v w) ∙ e ∙ ap (λ m. get_or from.d m 0ℚ) (sym x) ∙ sym (when_true (ltb n (i + 1)) (get_or from.d n 0ℚ) (lt-ltb n (i + 1) (omega arith)))
     by n q (inl x) false w =
         value_of-with_value i v t.d n free
         ∙ cond_at (eqb n i) v (value_of t.d n) (grind (arith, nat_tests))
         ∙ e
         ∙ ap (λ m. get_or from.d m 0ℚ) (sym x)
-        ∙ sym (when_true (ltb n (i + 1)) (get_or from.d n 0ℚ) (is_before n (i + 1) (omega arith)))
+        ∙ sym (when_true (ltb n (i + 1)) (get_or from.d n 0ℚ) (lt-ltb n (i + 1) (omega arith)))
     by n q (inr x) true w = h.of_d n q ∙ ap (λ w. when w (get_or from.d n 0ℚ)) (before_more n i x)
     by n q (inr x) false w =
         value_of-with_value i v t.d n free
@@ -290,7 +287,7 @@ filled_none from t e = subst (AreFilled 0 0 0 0 from) (sym e) (unfold no_entries
 
 full_value : (dim : ℕ) (F : ℕ → ℕ → ℕ → ℚ) (es : List Entry) → dim ≤ 8 → Filled dim 512 F es → (i j k : ℕ) → i < dim → j < dim → k < dim → value_at es i j k ≡ F i j k
 unfolding Filled
-full_value dim F es most h i j k p q r = h i j k p q r ∙ when_true (ltb (64 * i + 8 * j + k) 512) (F i j k) (is_before (64 * i + 8 * j + k) 512 (omega arith))
+full_value dim F es most h i j k p q r = h i j k p q r ∙ when_true (ltb (64 * i + 8 * j + k) 512) (F i j k) (lt-ltb (64 * i + 8 * j + k) 512 (omega arith))
 
 full_symmetric : (dim : ℕ) (F G : ℕ → ℕ → ℕ → ℚ) (es : List Entry) → dim ≤ 8 → Filled dim 512 (ordered F) es → ((i j k : ℕ) → i < dim → j < dim → k < dim → F i j k ≡ G i j k) → ((i j k : ℕ) → G i j k ≡ G i k j) → (i j k : ℕ) → i < dim → j < dim → k < dim → value_at es i (min j k) (max j k) ≡ G i j k
 full_symmetric dim F G es most h same symmetric i j k p q r = by (cases_lt k j)
@@ -316,7 +313,7 @@ filled_all from t T most h symmetric same = record {
   A = λ i j k p q r. full_symmetric from.dim (entry from.a) T.A t.a most h.of_a same.A symmetric.A i j k (below i p) (below j q) (below k r);
   B = λ i j k p q r. full_value from.dim (entry from.b) t.b most h.of_b i j k (below i p) (below j q) (below k r) ∙ same.B i j k (below i p) (below j q) (below k r);
   C = λ i j k p q r. full_symmetric from.dim (entry from.c) T.C t.c most h.of_c same.C symmetric.C i j k (below i p) (below j q) (below k r);
-  D = λ i p. h.of_d i (below i p) ∙ when_true (ltb i from.dim) (get_or from.d i 0ℚ) (is_before i from.dim (below i p)) ∙ same.D i (below i p);
+  D = λ i p. h.of_d i (below i p) ∙ when_true (ltb i from.dim) (get_or from.d i 0ℚ) (lt-ltb i from.dim (below i p)) ∙ same.D i (below i p);
 }
   where
     below : (n : ℕ) → n < t.dim → n < from.dim

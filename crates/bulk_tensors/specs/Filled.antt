@@ -1,3 +1,4 @@
+-- For private functions and for proofs: no public contract rests on this file.
 -- How far the entries of full tensors are put into others.
 use Prim.Native.Nat.{ℕ, ◌<◌}
 use mathlib.Core.Path.{◌≡◌}

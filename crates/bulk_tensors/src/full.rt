@@ -68,6 +68,7 @@ impl Full {
     }
 
     /// The new entry at i, j and k where one slot changes, None where its product or its sum isn't obtained.
+    #[tactic(auto, unfolding(crate::specs::Change::at_slot, crate::specs::Change::obtained_gained))]
     fn entry_changed(&self, slot: Slot, gain: &Gain, i: usize, j: usize, k: usize) -> Option<Frac>
         requires first { i < 8 }
         requires second { j < 8 }

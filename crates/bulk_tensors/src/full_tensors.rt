@@ -92,6 +92,7 @@ impl FullTensors {
     ///
     /// It is refused with `Over` exactly where such a product, or the sum of it and the old entry, leaves the range, and then
     /// nothing is changed.
+    #[tactic(auto, unfolding(crate::specs::Change::changed, crate::specs::Change::is_obtained, crate::specs::Change::amplitude, crate::specs::Change::contracted, crate::specs::Change::gains, crate::specs::Full::listed))]
     pub fn change(&mut self, r: u8, t: Frac) -> Result<(), BulkErr>
         requires { r + 1 < self.old.dim }
         ensures changed { OnOk result (SameEntries (listed self.new) (changed r (r + 1) t (listed self.old))) }
@@ -118,6 +119,7 @@ impl FullTensors {
     }
 
     /// Changes all slots, or none where a product or a sum isn't obtained.
+    #[tactic(auto, unfolding(crate::specs::Change::gains_obtained, crate::specs::Full::listed))]
     fn change_slots(&mut self, amplitude: &Gain, contracted: &Gain) -> Option<()>
         requires amplitude { amplitude.now.from < self.old.dim }
         requires contracted { contracted.now.from < self.old.dim }

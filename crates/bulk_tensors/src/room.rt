@@ -29,6 +29,7 @@ impl Room {
     }
 
     /// Makes A, B and C with all slots changed, None where a product or a sum isn't obtained.
+    #[tactic(auto, unfolding(crate::specs::Change::parts_obtained))]
     pub fn change(
         &mut self,
         dim: usize,

@@ -22,6 +22,7 @@ pub(crate) struct Gain {
 impl Gain {
     /// The new entry at an index, from the old one and the one at the index `from`; None where the product or the sum isn't
     /// obtained.
+    #[tactic(auto, unfolding(crate::specs::Change::obtained_entry, airy_math::specs::Obtained::both_obtained))]
     pub fn entry(&self, index: usize, old: Frac, other: Frac) -> Option<Frac>
         ensures { result ≡ obtained_entry self.now index old other }
     {

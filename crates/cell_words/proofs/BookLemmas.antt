@@ -1,6 +1,7 @@
 -- Books of acts, and the cells under a book that changes at one rank.
 use Rattle.std.proofs.Common.{is_some, ◌≡◌, ◌≢◌, ℕ, zero, suc, ◌+◌, ◌*◌, ◌<◌, ◌≤◌, ◌^◌, List, [], ◌∷◌, ◌++◌, length, map, take, get_or, refl, sym, ap, ap₂, ◌∙◌, subst, ⊎_elim, arith, Bool, true, false, true≢false, not, ◌||◌, cond, nat_eq, nat_lt, eq-eqb, ne_eqb, eqb-true, Option, Some, None, append_assoc, lt_of_not-le, slice_index}
 use Rattle.cell_words.proofs.Names.{when, unless, none-some, or_cases, or-true, or-false, or_assoc, map-append, dite, ℕ_discrete, dec_le, Planning, has, needs_at, AreDistinct, code_of, Act, Portion, CLAIMED, FILLED, acts_of, act_among, act_in, acts_for, Book, signed_in, signs, count_of, unsigned, state_of, written_of, IsFilled, IsActIn, Cell, change, with_act, fresh_act, with_fresh, View}
+use Rattle.amp_plan.proofs.RowLemmas.{has-at}
 
 abbrev pub put : Book → ℕ → Act → Book
 put b r a k = cond (nat_eq k r) (Some a) (b k)
@@ -139,19 +140,13 @@ has_more u [] s low = absurd (omega arith)
 has_more u (y ∷ ys) zero low = or-false (nat_eq u y)
 has_more u (y ∷ ys) (suc s) low = ap (λ c. nat_eq u y || c) (has_more u ys s (omega arith)) ∙ sym (or_assoc (nat_eq u y) (has u (take s ys)) (nat_eq u (get_or ys s 0)))
 
-pub has_at : (xs : List ℕ) (s : ℕ) → s < length xs → has (get_or xs s 0) xs ≡ true
-unfolding has
-has_at [] s low = absurd (omega arith)
-has_at (y ∷ ys) zero low = ap (λ c. c || has y ys) (eq-eqb y y refl)
-has_at (y ∷ ys) (suc s) low = ap (λ c. nat_eq (get_or ys s 0) y || c) (has_at ys s (omega arith)) ∙ or-true (nat_eq (get_or ys s 0) y)
-
 -- the next one hasn't come before
 pub has_not_yet : (xs : List ℕ) (s : ℕ) → s < length xs → AreDistinct xs → has (get_or xs s 0) (take s xs) ≡ false
 unfolding has AreDistinct
 has_not_yet [] s low d = absurd (omega arith)
 has_not_yet (y ∷ ys) zero low d = refl
 has_not_yet (y ∷ ys) (suc s) low d = dite (ℕ_discrete (get_or ys s 0) y)
-    (λ (e : get_or ys s 0 ≡ y). absurd (true≢false (sym (ap (λ k. has k ys) (sym e) ∙ has_at ys s (omega arith)) ∙ d.0)))
+    (λ (e : get_or ys s 0 ≡ y). absurd (true≢false (sym (ap (λ k. has k ys) (sym e) ∙ has-at ys s (omega arith)) ∙ d.0)))
     (λ n. ap (λ c. c || has (get_or ys s 0) (take s ys)) (ne_eqb (get_or ys s 0) y n) ∙ has_not_yet ys s (omega arith) d.1)
 
 -- one fewer counts

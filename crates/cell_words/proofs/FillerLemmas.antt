@@ -1,31 +1,16 @@
 -- The filler's list of outcomes.
-use Rattle.std.proofs.Common.{◌≡◌, ◌⊎◌, inl, inr, refl, zero, suc, [], ◌∷◌, map, replicate, Option, Some, None, append-nil, length-append, take_all, ℕ, ◌<◌, ◌≤◌, ◌+◌, ◌-◌, ◌++◌, List, take, drop, length, arith, sym, ap, ◌∙◌, subst, length-take-le, get_or-drop, get_or-take, take-append-drop, length-drop, take-take, vec_len, get_or}
-use Rattle.std.proofs.lemmas.List.{length-replicate}
-use Rattle.amp_terms.specs.Outcomes.{outcomes}
-use Rattle.amp_terms.specs.Tables.{full_table}
+use Rattle.std.proofs.Common.{◌≡◌, ℕ, ◌<◌, ◌≤◌, ◌+◌, ◌++◌, List, take, drop, length, arith, sym, ap, ◌∙◌, subst, length-take-le, get_or-drop, get_or-take, take-append-drop, length-drop, take-take, vec_len, get_or}
 use Rattle.amp_terms.proofs.OutcomeLemmas.{length-all}
-use Rattle.cell_words.proofs.Names.{cases_lt, length-map, get_or_default, Planning, tensors_of, Outcome, Over, cells, all_outcomes, outcome_at, cells_to, IsFilling, IsFiller}
-use Rattle.cell_words.specs.Layout.{IsPartial}
-use Rattle.cell_words.specs.Levels.{level_after, table_to}
+use Rattle.cell_words.proofs.Names.{get_or_default, Planning, Outcome, Over, cells, all_outcomes, outcome_at, cells_to, IsFilling, IsFiller}
+use Rattle.cell_words.specs.Levels.{level_after}
 use Rattle.cell_words.specs.declared.frontier.Frontier.{Frontier}
 use Rattle.cell_words.specs.declared.frontier.FillSeat.{FillSeat}
 use Rattle.cell_words.proofs.LevelSteps.{cells_grow}
-use Rattle.cell_words.proofs.LevelLemmas.{level-inside, all-levels}
+use Rattle.cell_words.proofs.LevelLemmas.{level-inside}
 
 pub length-taken : (p : Planning) (n : ℕ) → n ≤ cells p → length (take n (all_outcomes p)) ≡ n
 unfolding all_outcomes
 length-taken p n h = length-take-le n (all_outcomes p) (omega (arith, length-all p))
-
-outcome-taken : (p : Planning) (n r : ℕ) → r < n → get_or (take n (all_outcomes p)) r Over ≡ outcome_at p r
-unfolding all_outcomes outcome_at
-outcome-taken p n r h = get_or-take n (all_outcomes p) r Over h
-
-beyond : (done : List Outcome) (n r : ℕ) → length done ≤ r → get_or (map Some done ++ replicate n None) r None ≡ None
-beyond [] zero r h = refl
-beyond [] (suc n) zero h = refl
-beyond [] (suc n) (suc r) h = beyond [] n r (omega arith)
-beyond (o ∷ done) n zero h = absurd (omega arith)
-beyond (o ∷ done) n (suc r) h = beyond done n r (omega arith)
 
 -- the list is as long as the ranks that are written
 pub filled-count : (b : Frontier) (n : ℕ) (f : FillSeat) → n ≤ cells b.plan → IsFilling b n f → vec_len f.outcomes ≡ n
@@ -62,35 +47,3 @@ pub level-behind : (p : Planning) (k : ℕ) → take (cells_to p (k + 1)) (all_o
 unfolding level_after
 level-behind p k =
     sym (take-append-drop (cells_to p k) (take (cells_to p (k + 1)) (all_outcomes p))) ∙ ap (λ l. l ++ drop (cells_to p k) (take (cells_to p (k + 1)) (all_outcomes p))) (take-take (cells_to p k) (cells_to p (k + 1)) (all_outcomes p) (cells_grow p k (k + 1) (omega arith)))
-
--- ---- the table of some levels
-
-at-filled : (done : List Outcome) (n r : ℕ) → r < length done → get_or (map Some done ++ replicate n None) r None ≡ Some (get_or done r Over)
-at-filled [] n r h = absurd (omega arith)
-at-filled (o ∷ done) n zero h = refl
-at-filled (o ∷ done) n (suc r) h = at-filled done n r (omega arith)
-
-pub table-partial : (p : Planning) (k : ℕ) → k ≤ p.bound → IsPartial p (table_to p k)
-unfolding table_to
-table-partial p k h = record {
-  long = length-append (map Some (take (cells_to p k) (all_outcomes p))) (replicate (cells p - cells_to p k) None)
-      ∙ (let a : length (map Some (take (cells_to p k) (all_outcomes p))) ≡ length (take (cells_to p k) (all_outcomes p)) = length-map (take (cells_to p k) (all_outcomes p)) Some in
-      let b = length-taken p (cells_to p k) (level-inside p k h) in
-      let c : length {A = Option Outcome} (replicate (cells p - cells_to p k) None) ≡ cells p - cells_to p k = length-replicate (cells p - cells_to p k) None in omega (arith, a, b, c, level-inside p k h));
-  each = λ r low. by r (cases_lt r (cells_to p k));
-}
-  where
-    cell : ℕ → Option Outcome
-    cell r = get_or (map Some (take (cells_to p k) (all_outcomes p)) ++ replicate (cells p - cells_to p k) None) r None
-
-    by : (r : ℕ) → (r < cells_to p k) ⊎ (cells_to p k ≤ r) → (cell r ≡ None) ⊎ (cell r ≡ Some (outcome_at p r))
-    by r (inl l) = inr (at-filled (take (cells_to p k) (all_outcomes p)) (cells p - cells_to p k) r (omega (arith, l, length-taken p (cells_to p k) (level-inside p k h))) ∙ ap Some (outcome-taken p (cells_to p k) r l))
-    by r (inr l) = inl (beyond (take (cells_to p k) (all_outcomes p)) (cells p - cells_to p k) r (omega (arith, l, length-taken p (cells_to p k) (level-inside p k h))))
-
--- the table of all levels is whole
-pub table-full : (p : Planning) → table_to p p.bound ≡ full_table (tensors_of p) p.bound
-unfolding table_to full_table all_outcomes
-table-full p =
-    let all = all-levels p in
-    let none : cells p - cells_to p p.bound ≡ 0 = omega (arith, all) in
-    ap (λ n. map Some (take (cells_to p p.bound) (outcomes (tensors_of p) p.bound)) ++ replicate n None) none ∙ append-nil _ ∙ ap (map Some) (take_all (cells_to p p.bound) (outcomes (tensors_of p) p.bound) (omega (arith, all, length-all p)))

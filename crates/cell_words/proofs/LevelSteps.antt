@@ -36,9 +36,6 @@ fits_set filler front views id w others mine j u e =
 apart_roles : Asker ≡ Filler → ⊥
 apart_roles e = cc
 
-spent_roles : Spent ≡ Filler → ⊥
-spent_roles e = cc
-
 -- an asker isn't the filler
 not_filler : (words : List ℕ) (views : List View) (h : Lawful words views) (id : ℕ) (v : View) → get_elem? views id ≡ some v → v.role ≢ Filler → h.filler ≢ id
 not_filler words views h id v at role e = role (ap (λ (x : View). x.role) (some-injective _ _ (sym at ∙ ap (λ k. get_elem? views k) (sym e) ∙ h.here)) ∙ h.fills)

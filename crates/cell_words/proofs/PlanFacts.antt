@@ -8,12 +8,12 @@ use Rattle.amp_plan.specs.Ranked.{AreAllowed}
 use Rattle.amp_terms.specs.Outcomes.{ranks_named}
 use Rattle.amp_terms.specs.Pivots.{pivot_outcome}
 use Rattle.amp_terms.proofs.NamedLemmas.{allowed_places, least_stands, rank_planned}
-use Rattle.amp_plan.proofs.ListWalkLemmas.{head-index}
+use Rattle.index_lists.proofs.ListWalkLemmas.{head-index}
 use Rattle.amp_plan.specs.Needs.{needs_rank, needed, resting}
 use Rattle.amp_plan.proofs.GraphLemmas.{keep-row}
 use Rattle.cell_words.proofs.Names.{times, Outcome, keep, below, count_from, Planning, tensors_of, keys_of, key_at, Key, head_or, remove, has, needs_at, dependents_at, AreNeeds, cells, IsPlanned}
 use Rattle.cell_words.specs.Looks.{Reaches}
-use Rattle.cell_words.proofs.BookLemmas.{has_at}
+use Rattle.amp_plan.proofs.RowLemmas.{has-at}
 
 length-keep : (f : ℕ → Bool) (k n : ℕ) → length (keep f (count_from k n)) ≤ n
 unfolding keep count_from
@@ -37,7 +37,7 @@ is_planned p n few = record {
 
 pub dependent_low : (p : Planning) (q k : ℕ) → k < length (dependents_at p q) → slice_index (dependents_at p q) k < cells p
 unfolding dependents_at resting keys_of
-dependent_low p q k l = (keep-row (λ i. needs_rank (tensors_of p) p.bound i q) (cells p)).small (get_or (dependents_at p q) k 0) (has_at (dependents_at p q) k l)
+dependent_low p q k l = (keep-row (λ i. needs_rank (tensors_of p) p.bound i q) (cells p)).small (get_or (dependents_at p q) k 0) (has-at (dependents_at p q) k l)
 
 -- what holds of each need of a rank holds of each rank that its terms name, at its least index
 pub named_needs : (P : ℕ → Type 0) (p : Planning) (r : ℕ) → AreNeeds (tensors_of p) p.bound → r < cells p → ((q : ℕ) → has q (needs_at p r) ≡ true → q < r → P q)

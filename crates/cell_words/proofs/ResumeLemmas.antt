@@ -7,10 +7,10 @@ use Rattle.cell_words.proofs.Names.{none-some, false_from_ne_true, length-map, d
 use Rattle.cell_words.specs.Countdown.{first_view}
 use Rattle.cell_words.specs.Starts.{all_in}
 use Rattle.cell_words.specs.Resuming.{IsResumed, IsNew}
-use Rattle.cell_words.proofs.BookLemmas.{has_at}
 use Rattle.cell_words.proofs.DealLemmas.{nothing_done}
 use Rattle.cell_words.proofs.ReceiptLemmas.{first_of}
 use Rattle.cell_words.proofs.OpeningLemmas.{count_in, length-empty, empty_at}
+use Rattle.amp_plan.proofs.RowLemmas.{has-at}
 
 pub count_more : (f : ℕ → Bool) (xs : List ℕ) (i : ℕ) → i < length xs → count_of f (take (suc i) xs) ≡ cond (f (get_or xs i 0)) (suc (count_of f (take i xs))) (count_of f (take i xs))
 count_more f [] i l = absurd (omega arith)
@@ -117,7 +117,7 @@ resumed_new b carried k t none h = record {
 number_there : (ss : List CountSeat) (j : ℕ) (d : CountSeat) → j < length ss → (get_or ss j d).number ≡ j → has j (numbers_in ss) ≡ true
 number_there ss j d l e =
     let low : j < length (numbers_in ss) = omega (arith, l, length-map ss (λ s. s.number)) in
-    subst (λ i. has i (numbers_in ss) ≡ true) (get_or_default (numbers_in ss) j 0 d.number low ∙ get_or-map (λ s. s.number) ss j d ∙ e) (has_at (numbers_in ss) j low)
+    subst (λ i. has i (numbers_in ss) ≡ true) (get_or_default (numbers_in ss) j 0 d.number low ∙ get_or-map (λ s. s.number) ss j d ∙ e) (has-at (numbers_in ss) j low)
 
 -- the seats that a board begins with are all its seats
 pub all_resumed : (b : Countdown) (carried : List ℕ) (ss : List CountSeat) → b.base.seats ≡ length ss → ((k : ℕ) (d : CountSeat) → k < length ss → IsResumed b carried k (get_or ss k d)) → AreAll b ss

@@ -50,26 +50,6 @@ act_after b s a x y f u is h table me plan seats portions keep =
       e.1 ∙ ap tail_of portions ∙ ap (λ o. tail_of (view_in o).portions) (sym is),
     )
 
-holding_same : (b : Countdown) (s t : CountSeat) (o : Option ℕ) → HasToken b t.place → (view_of t).portions ≡ (view_of s).portions → t.number ≡ s.number → t.done ≡ s.done → IsHolding b s o → IsHolding b t o
-holding_same b s t None token ps number done h = record {
-  token = token;
-  done = subst (λ (k : ℕ × List ℕ × List Portion). IsDone b.base.plan k.0 k.1 k.2) (λ i. (sym number i, (sym done i).items, sym ps i)) h.done;
-  room = subst (λ v. cells b.base.plan ≤ vec_capacity v) (sym done) h.room;
-}
-holding_same b s t (Some r) token ps number done h = record {
-  token = token;
-  low = h.low;
-  at = subst (λ (k : ℕ × List ℕ × List Portion). IsAt b.base.plan k.0 k.1 (act_of r 0 false 0 []) k.2) (λ i. (sym number i, (sym done i).items, sym ps i)) h.at;
-  room = subst (λ v. cells b.base.plan ≤ vec_capacity v) (sym done) h.room;
-}
-
--- a seat of which only the token changed, and no portion
-pub seat_same : (b : Countdown) (s t : CountSeat) → HasToken b t.place → (view_of t).portions ≡ (view_of s).portions → (t.number ≡ s.number) × (t.held ≡ s.held) × (t.done ≡ s.done) → IsSeatOf b s → IsSeatOf b t
-seat_same b s t token ps kept h = (
-  subst (IsHolding b t) (sym kept.1) (holding_same b s t s.held token ps kept.0 kept.2 h.0),
-  ap tail_of ps ∙ h.1,
-)
-
 pub has_token : (b : Countdown) (s : CountSeat) (o : Option ℕ) → IsHolding b s o → HasToken b s.place
 has_token b s None h = h.token
 has_token b s (Some r) h = h.token

@@ -7,8 +7,8 @@ use Rattle.atomic_table.specs.Table.{State, Me, Step, stepped, Valid, carried_af
 use Rattle.atomic_table.proofs.Lists.{at_set, set_again, exchanged}
 use Rattle.cell_words.proofs.Names.{none-some, or-true, or_left, or_right, or_cases, cases_lt, set-get_or, dite, none, some, some-ne-none, ℕ_discrete, get_elem?, step, keeps, Allows, Planning, has, needs_at, dependents_at, AreDistinct, cells, code_of, outcome_at, IsSized, Act, Portion, CLAIMED, FILLED, acts_of, act_among, act_in, numbers_of, Book, signed_in, signs, unsigned, state_of, written_of, IsFilled, IsAct, IsActIn, Cell, acts_for, with_act, fresh_act, with_fresh, claimed, write_more, fill_up, sign_one, active, IsState, IsWhole, Holds, Known, by_sight, by_holding, by_need, View, when, unless, or-false, and_parts}
 use Rattle.cell_words.specs.Countdown.{Fits, Lawful, Keeps, M, looked, Looked, Claimed, Wrote, Filled, Signed, Read}
-use Rattle.amp_plan.proofs.RowLemmas.{has-append, has-one}
-use Rattle.cell_words.proofs.BookLemmas.{put, put_here, put_else, put_owner, signs_same, cell_else, count_le, says_filled, says_free, all_signed, has_more, has_at, has_not_yet, count_fewer, changed, act_change, act_fresh, none_acts, acts_for_changed, acts_for_fresh, fewer_acts}
+use Rattle.amp_plan.proofs.RowLemmas.{has-append, has-one, has-at}
+use Rattle.cell_words.proofs.BookLemmas.{put, put_here, put_else, put_owner, signs_same, cell_else, count_le, says_filled, says_free, all_signed, has_more, has_not_yet, count_fewer, changed, act_change, act_fresh, none_acts, acts_for_changed, acts_for_fresh, fewer_acts}
 use Rattle.atomic_table.specs.Table as table
 
 -- the view of the seat id becomes w, under a book that differs from the old one at no act of another seat
@@ -357,7 +357,7 @@ signs_one slots id me r t a live now mine full more next s h _ at small =
     let next' : t ≡ get_or deps a.signed 0 = next ∙ ap (λ (z : Planning). slice_index (dependents_at z r) a.signed) p in
     let new_act : Act = sign_one t n a in
     let b : Book = put h.book r new_act in
-    let depends : has t deps ≡ true = ap (λ k. has k deps) next' ∙ has_at deps a.signed more' in
+    let depends : has t deps ≡ true = ap (λ k. has k deps) next' ∙ has-at deps a.signed more' in
     let below : t < cells h.plan = h.planned.dependents_low r t depends in
     let needed : has r (needs_at h.plan t) ≡ true = h.planned.converse r t low below ∙ depends in
     let order : r < t = h.planned.lower r t below needed in

@@ -1,7 +1,7 @@
-ghost use Rattle.std.specs.Prelude.{◌≡◌, ◌<◌, ◌≤◌, ◌-◌, Some, None, IfSome, IsTrue, cond, vec_len};
+ghost use Rattle.std.specs.Prelude.{◌≡◌, ◌<◌, ◌≤◌, ◌-◌, Some, None, IfSome, IsTrue, All, cond, vec_len};
 ghost use Rattle.cell_words.specs.Layout.{cells};
 ghost use Rattle.cell_words.specs.Resuming.{CanResume};
-ghost use Rattle.cell_words.specs.LevelSeats.{IsAsker, IsFiller, plan_of as level_plan};
+ghost use Rattle.cell_words.specs.LevelSeats.{IsAsker, IsFiller, IsUnseen, plan_of as level_plan};
 ghost use Rattle.cell_words.specs.Seats.{IsSeatOf, EachPlaced, plan_of, seats_of, held_of, number_of};
 
 use crate::{
@@ -20,11 +20,8 @@ fn fraction(num: i128, den: i128) -> Frac {
     Frac::new(num, den).unwrap_or(Frac::whole(0))
 }
 
-/// Puts the entries of Witten and Kontsevich with all indices up to 2.
-fn put_wk_2(t: &mut Tensors) -> Result<(), PutErr> {
-    t.put_a(0, 0, 0, Frac::whole(1))?;
-    t.put_d(1, fraction(1, 8))?;
-    t.put_c(2, 0, 0, Frac::whole(1))?;
+/// The entries of B of Witten and Kontsevich with all indices up to 2.
+fn put_wk_2_b(t: &mut Tensors) -> Result<(), PutErr> {
     for (i, j, v) in [
         (0u8, 1u8, 3i64),
         (0, 2, 5),
@@ -37,6 +34,14 @@ fn put_wk_2(t: &mut Tensors) -> Result<(), PutErr> {
         t.put_b(i, j, i + j - 1, Frac::whole(v))?;
     }
     Ok(())
+}
+
+/// All their entries.
+fn put_wk_2(t: &mut Tensors) -> Result<(), PutErr> {
+    put_wk_2_b(t)?;
+    t.put_a(0, 0, 0, Frac::whole(1))?;
+    t.put_c(2, 0, 0, Frac::whole(1))?;
+    t.put_d(1, fraction(1, 8))
 }
 
 /// Their tensors.
@@ -338,7 +343,16 @@ fn shows(board: &Frontier, seat: &mut LevelSeat, rank: u32, outcome: Outcome) ->
     }
 }
 
-/// Whether a seat finds nothing before a sweep, and the outcomes of the first and the last rank behind it.
+/// Whether a seat finds the outcomes of the first and the last rank.
+fn shows_both(board: &Frontier, seat: &mut LevelSeat) -> bool
+    requires five { cells (level_plan board.now) ≡ 5 }
+    requires seat { IsAsker board.now seat.old }
+{
+    shows(board, seat, 0, Outcome::Value(Frac::whole(1)))
+        && shows(board, seat, 4, Outcome::Value(fraction(3, 8)))
+}
+
+/// Whether it finds nothing before a sweep, and these outcomes behind it.
 fn finds_levels(board: &Frontier, filler: &mut FillSeat, seat: &mut LevelSeat) -> bool
     requires five { cells (level_plan board.now) ≡ 5 }
     requires filler { IsFiller board.now filler.old }
@@ -348,19 +362,27 @@ fn finds_levels(board: &Frontier, filler: &mut FillSeat, seat: &mut LevelSeat) -
         return false;
     };
     level_sweep(board, filler);
-    shows(board, seat, 0, Outcome::Value(Frac::whole(1)))
-        && shows(board, seat, 4, Outcome::Value(fraction(3, 8)))
+    shows_both(board, seat)
+}
+
+/// Whether the last of some seats does.
+fn last_finds_levels(board: &Frontier, mut filler: FillSeat, mut seats: Vec<LevelSeat>) -> bool
+    requires five { cells (level_plan board.now) ≡ 5 }
+    requires filler { IsFiller board.now filler }
+    requires seats { All (λ s. IsAsker board.now s × IsUnseen s) seats.items }
+{
+    let Some(mut seat) = seats.pop() else {
+        return false;
+    };
+    finds_levels(board, &mut filler, &mut seat)
 }
 
 fn publishes_levels(alloc: Global) -> Option<bool> {
     let plan = five_cells(alloc)?;
-    let Ok((board, mut filler, mut seats)) = Frontier::make(alloc, plan, 1) else {
+    let Ok((board, filler, seats)) = Frontier::make(alloc, plan, 1) else {
         return None;
     };
-    let Some(mut seat) = seats.pop() else {
-        unreachable!()
-    };
-    Some(finds_levels(&board, &mut filler, &mut seat))
+    Some(last_finds_levels(&board, filler, seats))
 }
 
 #[test]
@@ -392,18 +414,27 @@ fn is_full(table: &Table) -> bool {
     filled_in(table) == table.len()
 }
 
-/// Whether a board of so many cells with so many seats, closed at once, leaves nothing.
+/// Whether nothing is left of so many cells and so many seats.
+fn is_bare(closed: &Closed, cells: u32, seats: u8) -> bool {
+    closed.table.len() == cells && filled_in(&closed.table) == 0 && are_empty(closed, seats)
+}
+
+/// What is left of a board of a plan with so many seats, closed at once.
+fn closed_at_once(alloc: Global, plan: Option<Plan>, seats: u8) -> Option<Closed>
+    requires { (1 ≤ seats) × (seats ≤ 32) }
+{
+    let (board, crew) = Countdown::make(alloc, plan?, seats).ok()?;
+    Some(board.close(crew))
+}
+
+/// Whether that is nothing of so many cells.
 fn closes_bare(alloc: Global, plan: Option<Plan>, cells: u32, seats: u8) -> bool
     requires { (1 ≤ seats) × (seats ≤ 32) }
 {
-    let Some(plan) = plan else {
-        return false;
-    };
-    let Ok((board, crew)) = Countdown::make(alloc, plan, seats) else {
-        return false;
-    };
-    let closed = board.close(crew);
-    closed.table.len() == cells && filled_in(&closed.table) == 0 && are_empty(&closed, seats)
+    match closed_at_once(alloc, plan, seats) {
+        Some(closed) => is_bare(&closed, cells, seats),
+        None => false,
+    }
 }
 
 /// Whether that is so with one seat and with 32.
@@ -435,19 +466,30 @@ fn work(board: &Countdown, mut seat: CountSeat) -> CountSeat
     seat
 }
 
-/// Whether each outcome that a board left is that of one thread.
-fn agrees_with_one(alloc: Global, closed: &Closed) -> bool {
-    let Ok(right) = one_thread(alloc, &closed.plan) else {
+/// Whether an outcome is wanting, or this one.
+fn is_none_or(outcome: Option<Outcome>, right: Option<Outcome>) -> bool {
+    outcome.is_none() || outcome == right
+}
+
+/// Whether each outcome of a table is that of another, which is as long.
+fn agrees(table: &Table, right: &Table) -> bool {
+    if table.len() != right.len() {
         return false;
-    };
-    let mut same = closed.table.len() == right.len();
+    }
     for rank in 0..right.len() {
-        if rank < closed.table.len() {
-            let outcome = closed.table.outcome(rank);
-            same = same && (outcome.is_none() || outcome == right.outcome(rank));
+        if !is_none_or(table.outcome(rank), right.outcome(rank)) {
+            return false;
         }
     }
-    same
+    true
+}
+
+/// Whether each outcome that a board left is that of one thread.
+fn agrees_with_one(alloc: Global, closed: &Closed) -> bool {
+    match one_thread(alloc, &closed.plan) {
+        Ok(right) => agrees(&closed.table, &right),
+        Err(_) => false,
+    }
 }
 
 fn work_at_once<R: Threads>(rt: &R, alloc: Global) -> Option<bool> {

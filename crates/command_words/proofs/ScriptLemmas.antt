@@ -165,7 +165,7 @@ below_reach X (Grow Y ∷ lines) r = by (is_bound X) (below_reach Y lines r.2)
     by true h = omega (arith, r.0, h)
     by false h = omega arith
 
-bound_some : (X : ℕ) → is_bound X ≡ true → 0 < X
+pub bound_some : (X : ℕ) → is_bound X ≡ true → 0 < X
 unfolding is_bound
 bound_some X is = search rules
 

@@ -161,11 +161,6 @@ unfolding AreAllowed
 allowed_within n has [] w h = tt
 allowed_within n has (r ∷ rs) w h = (w r h.0, allowed_within n has rs w h.1)
 
-pub first_is_head : (xs : List ℕ) → get_or xs 0 0 ≡ head_or 0 xs
-unfolding head_or
-first_is_head [] = refl
-first_is_head (x ∷ xs) = refl
-
 -- an outcome that has a Value
 pub has_some : (o : Outcome) → has_value o ≡ true → IsSome (value_of o)
 unfolding has_value value_of

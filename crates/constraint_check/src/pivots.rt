@@ -82,7 +82,7 @@ fn check_pivot<S: Seen>(
 }
 
 /// Whether an index of a key is one that is looked at.
-#[tactic(auto, unfolding(series_law::specs::Scans::every, series_law::specs::Scans::above_least), using(crate::proofs::StepLemmas::first_is_head))]
+#[tactic(auto, unfolding(series_law::specs::Scans::every, series_law::specs::Scans::above_least), using(amp_plan::proofs::NeedLemmas::head_read))]
 fn is_pivot(key: &Key, index: u8, pivots: Pivots) -> bool
     ensures { result ≡ looks pivots key.now index }
 {

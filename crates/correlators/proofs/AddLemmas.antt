@@ -1,13 +1,8 @@
 -- Terms that are added one list of lists after the other.
 use Rattle.std.proofs.Common.{◌≡◌, ℕ, ◌+◌, ◌-◌, List, [], ◌∷◌, ◌++◌, sym, ap, subst, ◌∙◌}
-use Rattle.airy_math.specs.Rational.{ℚ}
-use Rattle.airy_math.specs.Sums.{each}
-use Rattle.airy_math.proofs.EachLemmas.{append_assoc, each-append}
+use Rattle.correlators.proofs.Words.{ℚ, each, each-append, Planning, Term, term_of, parts_of, lists_of_sum, AddsTerms, behind}
+use Rattle.airy_math.proofs.EachLemmas.{append_assoc}
 use Rattle.airy_math.proofs.KeyLemmas.{append-nil}
-use Rattle.amp_plan.specs.Plans.{Planning}
-use Rattle.correlators.specs.declared.polynomial.Term.{Term}
-use Rattle.correlators.specs.Volumes.{term_of, parts_of, lists_of_sum}
-use Rattle.correlators.specs.Kept.{AddsTerms, behind}
 use Rattle.correlators.proofs.ListLemmas.{first_lists, behind-next}
 
 module _ (p : Planning) (g n : ℕ) (numbers : List ℚ) where

@@ -1,14 +1,7 @@
 -- How many lists of numbers have a sum of at most s.
 use Rattle.std.proofs.Common.{◌≡◌, ℕ, zero, suc, ◌+◌, ◌-◌, ◌*◌, ◌<◌, ◌≤◌, List, [], ◌∷◌, map, length, refl, sym, ap, ap₂, ◌∙◌, arith, length-append}
-use Rattle.airy_math.specs.Keys.{euler}
-use Rattle.airy_math.specs.Sums.{below, count_from, each, binomial}
-use Rattle.airy_math.proofs.SplitLemmas.{binomial-over}
-use Rattle.correlators.specs.Volumes.{lists_of_sum, lists_up_to, greatest_sum, counted}
+use Rattle.correlators.proofs.Words.{length-map, euler, below, count_from, each, binomial, binomial-over, binomial-zero, lists_of_sum, lists_up_to, greatest_sum, counted}
 use Rattle.correlators.proofs.ListLemmas.{each-next}
-
-length-map : {A B : Type 0} (f : A → B) (xs : List A) → length (map f xs) ≡ length xs
-length-map f [] = refl
-length-map f (x ∷ xs) = ap suc (length-map f xs)
 
 -- a first number that is given by the others
 length-each : (s : ℕ) (f : ℕ → List (List ℕ)) (ks : List ℕ) → length (each ks (λ k. map (λ ds. (s - k) ∷ ds) (f k))) ≡ length (each ks f)
@@ -16,7 +9,7 @@ unfolding each
 length-each s f [] = refl
 length-each s f (k ∷ ks) =
     length-append (map (λ ds. (s - k) ∷ ds) (f k)) (each ks (λ k. map (λ ds. (s - k) ∷ ds) (f k)))
-    ∙ ap₂ (λ a b. a + b) (length-map (λ ds. (s - k) ∷ ds) (f k)) (length-each s f ks) ∙ sym (length-append (f k) (each ks f))
+    ∙ ap₂ (λ a b. a + b) (length-map (f k) (λ ds. (s - k) ∷ ds)) (length-each s f ks) ∙ sym (length-append (f k) (each ks f))
 
 one_more : (n s : ℕ) → length (lists_of_sum (suc n) s) ≡ length (lists_up_to n s)
 unfolding lists_of_sum lists_up_to
@@ -67,10 +60,7 @@ row n below_row (suc s) =
 
 lists_counted : (n s : ℕ) → length (lists_up_to n s) ≡ binomial (s + n) n
 unfolding binomial
-lists_counted zero s = no_number s ∙ sym (none (s + 0))
-  where
-    none : (m : ℕ) → binomial m 0 ≡ 1
-    none m = refl
+lists_counted zero s = no_number s ∙ sym (binomial-zero (s + 0))
 lists_counted (suc n) s = row n (lists_counted n) s
 
 pub counted_lists : (g n : ℕ) → 0 < euler g n → 1 ≤ n → counted g n ≡ length (lists_up_to n (greatest_sum g n))

@@ -1,3 +1,4 @@
+pub mod Words
 pub mod DivisionLemmas
 pub mod PairLemmas
 pub mod ListLemmas

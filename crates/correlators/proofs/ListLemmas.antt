@@ -1,12 +1,8 @@
 -- The lists of a volume, and sums of lists.
 use Rattle.std.proofs.Common.{◌≡◌, ℕ, zero, suc, ◌+◌, ◌-◌, ◌≤◌, List, [], ◌∷◌, ◌++◌, map, get_or, refl, sym, ap, ◌∙◌, arith}
-use Rattle.std.proofs.lemmas.List.{map-append}
-use Rattle.airy_math.specs.Keys.{total}
-use Rattle.airy_math.specs.Sums.{below, count_from, each}
-use Rattle.airy_math.proofs.EachLemmas.{append_assoc, each-count_append}
-use Rattle.airy_math.proofs.KeyLemmas.{append-nil, map-cong, map-map}
-use Rattle.correlators.specs.Volumes.{lists_of_sum}
-use Rattle.correlators.specs.Kept.{behind}
+use Rattle.correlators.proofs.Words.{map-append, total, below, count_from, each, each-count_append, map-cong, map-map, lists_of_sum, behind}
+use Rattle.airy_math.proofs.EachLemmas.{append_assoc}
+use Rattle.airy_math.proofs.KeyLemmas.{append-nil}
 
 -- no element is above the sum
 pub at_most-total : (xs : List ℕ) (i : ℕ) → get_or xs i 0 ≤ total xs

@@ -1,24 +1,7 @@
 -- Each list of n numbers stands once among those of its sum.
-use Rattle.std.proofs.Common.{◌≡◌, ℕ, zero, suc, ◌+◌, ◌-◌, ◌*◌, ◌<◌, ◌≤◌, Bool, true, false, List, [], ◌∷◌, map, length, refl, sym, ap, ap₂, ◌∙◌, arith}
-use mathlib.Core.Logic.{◌⊎◌, inl, inr}
-use Rattle.std.specs.Prelude.{eqb, ltb, ◌&&◌}
-use Rattle.std.proofs.lemmas.Bool.{cases_lt, eqb-true, eq-eqb, ne_eqb, lt-ltb, le-ltb}
-use Rattle.airy_math.specs.Rational.{ℚ}
-use Rattle.airy_math.specs.RationalLaws.{0ℚ}
-use Rattle.airy_math.specs.Sums.{sum_over, when, below}
-use Rattle.airy_math.specs.Keys.{same_list, total}
-use Rattle.airy_math.proofs.SumLemmas.{Each-below, 0ℚ_idr, sum-cong, sum-cong_each, sum-zero, sum-each, sum-map}
-use Rattle.airy_math.proofs.PivotLaw.{when-none}
-use Rattle.airy_math.proofs.PivotLemmas.{when-and}
-use Rattle.airy_math.proofs.StartLaw.{sum-one, sum-when}
-use Rattle.correlators.specs.Volumes.{lists_of_sum, lists_up_to}
-
-same_test : (a b c d : ℕ) → (a ≡ b → c ≡ d) → (c ≡ d → a ≡ b) → eqb a b ≡ eqb c d
-same_test a b c d f g = by (eqb a b) refl
-  where
-    by : (t : Bool) → eqb a b ≡ t → t ≡ eqb c d
-    by true e = sym (eq-eqb c d (f (eqb-true a b e)))
-    by false e = sym (ne_eqb c d (λ h. Rattle.std.proofs.lemmas.Bool.false≢true (sym e ∙ eq-eqb a b (g h))))
+use Rattle.std.proofs.Common.{◌≡◌, ℕ, zero, suc, ◌+◌, ◌-◌, ◌*◌, ◌<◌, ◌≤◌, Bool, true, false, List, [], ◌∷◌, map, length, refl, sym, ap, ap₂, ◌∙◌, arith, ◌⊎◌, inl, inr, eqb, ltb, ◌&&◌}
+use Rattle.correlators.proofs.Words.{cases_lt, ℚ, 0ℚ, sum_over, when, below, same_list, total, Each-below, 0ℚ_idr, sum-cong, sum-cong_each, sum-zero, sum-each, sum-map, when-none, when-and, sum-one, sum-when, same_test, lists_of_sum, lists_up_to}
+use Rattle.std.proofs.lemmas.Bool.{eqb-true, ne_eqb, lt-ltb, le-ltb}
 
 pub doubled_same : (xs ys : List ℕ) → same_list (map (λ d. 2 * d) xs) (map (λ d. 2 * d) ys) ≡ same_list xs ys
 unfolding same_list

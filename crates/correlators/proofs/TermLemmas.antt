@@ -1,43 +1,12 @@
 -- The term of a list: its key is planned, and its coefficient stands at the key's rank.
-use Rattle.std.proofs.Common.{◌≡◌, ℕ, zero, suc, ◌+◌, ◌-◌, ◌*◌, ◌<◌, ◌≤◌, true, List, [], ◌∷◌, ◌++◌, map, length, get_or, Option, Some, refl, sym, ap, ap₂, subst, ◌∙◌, arith, pos}
-use Rattle.std.specs.Prelude.{cond, leb, ltb, ◌&&◌}
+use Rattle.std.proofs.Common.{◌≡◌, ℕ, ◌+◌, ◌-◌, ◌*◌, ◌<◌, ◌≤◌, true, List, [], ◌∷◌, ◌++◌, map, length, get_or, Option, Some, refl, sym, ap, ap₂, subst, ◌∙◌, arith, pos, cond, leb, ltb, ◌&&◌}
+use Rattle.correlators.proofs.Words.{le_z, ints, map-append, get_or_read, ℚ, ◌/ℚ◌, 0ℚ, each, Key, euler, key_of, total, ordered, Shape, covers, law_number, wp_shape, ListsPlanned, length-ordered, IsKey, is_zero-0ℚ, is_zero-some, Planning, tensors_of, keys_of, rank_at, place_in, are_below, letter_power, At, Zero, Beyond, BadIndex, rank_within, key_of_rank, Outcome, Term, part, table_term, term_of, part_of, parts_of, is_of, coefficient_of, greatest_sum, IsAsked, AreCoefficients, AddsTerms, own_number}
 use lib.IntN.{◌+ℤ◌, ◌*ℤ◌, ◌-ℤ◌}
-use lib.Signed.{le_z}
 use Rattle.std.proofs.lemmas.Bool.{le-leb, le-ltb, lt-ltb, eq-eqb}
-use Rattle.std.proofs.lemmas.Int.{ints}
-use Rattle.std.proofs.lemmas.List.{map-append}
-use Rattle.airy_math.specs.Rational.{ℚ}
-use Rattle.airy_math.specs.RationalLaws.{0ℚ}
-use Rattle.airy_math.specs.Sums.{each}
-use Rattle.airy_math.specs.Keys.{Key, euler, key_of, total, insert, ordered, ordered_with}
-use Rattle.airy_math.specs.declared.Shape.{Shape}
-use Rattle.airy_math.specs.Shapes.{covers, law_number}
-use Rattle.airy_math.specs.Families.{wp_shape}
-use Rattle.airy_math.specs.Ranks.{ListsPlanned}
-use Rattle.airy_math.specs.Tensors.{is_zero}
-use Rattle.airy_math.proofs.CutLaw.{total-insert, length-ordered}
+use Rattle.correlators.proofs.OrderLemmas.{total-ordered}
 use Rattle.airy_math.proofs.KeyLemmas.{append-nil}
-use Rattle.airy_index.specs.Fields.{IsKey}
-use Rattle.sparse_tensor.proofs.SoundLaw.{is_zero-0ℚ, is_zero-some}
-use Rattle.amp_plan.specs.Plans.{Planning, tensors_of, keys_of, rank_at}
-use Rattle.amp_plan.specs.Places.{place_in, are_below, letter_power}
-use Rattle.amp_plan.specs.declared.place.Place.TheVariants.{At, Zero, Beyond, BadIndex}
-use Rattle.amp_plan.proofs.PlaceLemmas.{rank_within, key_of_rank}
-use Rattle.amp_terms.specs.declared.Outcome.{Outcome}
-use Rattle.correlators.specs.declared.polynomial.Term.{Term}
-use Rattle.correlators.specs.Volumes.{Part, part, table_term, term_of, parts_of, is_of, coefficient_of, greatest_sum}
-use Rattle.correlators.specs.Kept.{IsAsked, AreCoefficients, AddsTerms, own_number}
 
 -- ---- the key
-
-total-ordered_with : (done xs : List ℕ) → total (ordered_with done xs) ≡ total done + total xs
-unfolding ordered_with total
-total-ordered_with done [] = omega arith
-total-ordered_with done (x ∷ xs) = total-ordered_with (insert x done) xs ∙ omega (arith, total-insert x done)
-
-pub total-ordered : (xs : List ℕ) → total (ordered xs) ≡ total xs
-unfolding ordered total
-total-ordered xs = omega (arith, total-ordered_with [] xs)
 
 pub below_all : (m : ℕ) (xs : List ℕ) → total xs < m → are_below m xs ≡ true
 unfolding are_below total
@@ -84,38 +53,25 @@ module _ (p : Planning) (g n : ℕ) (asked : IsAsked p g n) (ds : List ℕ) (len
     pub coefficient_at : (numbers : List ℚ) (cells : List (Option Outcome)) → AreCoefficients p cells g n (length (keys_of p)) numbers → coefficient_of p cells K ≡ Some (get_or numbers r 0ℚ)
     unfolding own_number
     coefficient_at numbers cells are =
-        ap (λ t. cond t (coefficient_of p cells K) (Some 0ℚ)) (sym (ap (is_of g n) is ∙ own))
+        ap (λ t. cond t (coefficient_of p cells K) (Some (pos 0 /ℚ 1))) (sym (ap (is_of g n) is ∙ own))
         ∙ ap (own_number g n (coefficient_of p cells)) (sym (key_of_rank p K r planned is_key place))
         ∙ are.own r ranked
 
     module _ (numbers : List ℚ) (w : ℚ) (at : w ≡ get_or numbers r w) (long_enough : length numbers ≡ length (keys_of p)) where
-      stored : (xs : List ℚ) (r : ℕ) (d : ℚ) → r < length xs → w ≡ get_or xs r w → w ≡ get_or xs r d
-      stored [] r d h e = absurd (omega arith)
-      stored (x ∷ xs) zero d h e = e
-      stored (x ∷ xs) (suc r) d h e = stored xs r d (omega arith) e
-
       coefficient : (cells : List (Option Outcome)) → AreCoefficients p cells g n (length (keys_of p)) numbers → coefficient_of p cells K ≡ Some w
-      coefficient cells are = coefficient_at numbers cells are ∙ ap Some (sym (stored numbers r 0ℚ (omega (arith, ranked, long_enough)) at))
+      coefficient cells are = coefficient_at numbers cells are ∙ ap Some (sym (get_or_read numbers r w (omega (arith, ranked, long_enough)) at 0ℚ))
 
-      -- the terms of the one list
-      one_list : (cells : List (Option Outcome)) → AreCoefficients p cells g n (length (keys_of p)) numbers
-          → each (ds ∷ []) (term_of p cells g) ≡ cond (is_zero w) [] (record { coef = w; letter = letter_power p K; powers = map (λ d. 2 * d) ds } ∷ [])
-      unfolding each term_of part table_term coefficient_of letter_power
-      one_list cells are =
-          append-nil (term_of p cells g ds) ∙ ap (λ k. part (letter_power p k) ds (coefficient_of p cells k)) (sym is)
-          ∙ ap (part (letter_power p K) ds) (coefficient cells are)
+      -- the terms of the one list are those that are added
+      pub adds_part : (old new ts : List Term) → new ≡ old ++ ts → parts_of ts ≡ part (letter_power p K) ds (Some w) → AddsTerms p g n numbers (ds ∷ []) old new
+      unfolding AddsTerms parts_of each term_of table_term coefficient_of letter_power
+      adds_part old new ts e t = λ cells are.
+          ap parts_of e ∙ map-append part_of old ts
+          ∙ ap (λ l. parts_of old ++ l) (t ∙ sym (append-nil (term_of p cells g ds) ∙ ap (λ k. part (letter_power p k) ds (coefficient_of p cells k)) (sym is) ∙ ap (part (letter_power p K) ds) (coefficient cells are)))
 
       pub adds_nothing : (old : List Term) → w ≡ 0ℚ → AddsTerms p g n numbers (ds ∷ []) old old
-      unfolding AddsTerms
-      adds_nothing old z = λ cells are.
-          let none : each (ds ∷ []) (term_of p cells g) ≡ [] = one_list cells are ∙ ap (λ t. cond t [] (record { coef = w; letter = letter_power p K; powers = map (λ d. 2 * d) ds } ∷ [])) (ap is_zero z ∙ is_zero-0ℚ) in
-          sym (append-nil (parts_of old)) ∙ ap (λ l. parts_of old ++ l) (sym none)
+      unfolding part parts_of
+      adds_nothing old z = adds_part old old [] (sym (append-nil old)) (sym (ap (λ w. part (letter_power p K) ds (Some w)) z ∙ ap (λ t. cond t [] (record { coef = 0ℚ; letter = letter_power p K; powers = map (λ d. 2 * d) ds } ∷ [])) is_zero-0ℚ))
 
       pub adds_one : (old new : List Term) (t : Term) → (w ≡ 0ℚ → ⊥) → new ≡ old ++ t ∷ [] → t.coef ≡ w → t.letter ≡ letter_power p K → t.powers.items ≡ map (λ d. 2 * d) ds → AddsTerms p g n numbers (ds ∷ []) old new
-      unfolding AddsTerms parts_of
-      adds_one old new t z e c l q = λ cells are.
-          let one : each (ds ∷ []) (term_of p cells g) ≡ record { coef = w; letter = letter_power p K; powers = map (λ d. 2 * d) ds } ∷ [] =
-          one_list cells are ∙ ap (λ t. cond t [] (record { coef = w; letter = letter_power p K; powers = map (λ d. 2 * d) ds } ∷ [])) (is_zero-some w z) in
-          let same : ◌≡◌ {A = Part} (record { coef = t.coef; letter = t.letter; powers = t.powers.items }) (record { coef = w; letter = letter_power p K; powers = map (λ d. 2 * d) ds }) = λ i. record { coef = c i; letter = l i; powers = q i } in
-          ap parts_of e ∙ map-append (λ t. record { coef = t.coef; letter = t.letter; powers = t.powers.items }) old (t ∷ [])
-          ∙ ap (λ x. parts_of old ++ x ∷ []) same ∙ ap (λ l. parts_of old ++ l) (sym one)
+      unfolding part parts_of
+      adds_one old new t z e c l q = adds_part old new (t ∷ []) e ((λ i. record { coef = c i; letter = l i; powers = q i } ∷ []) ∙ sym (ap (λ b. cond b [] (record { coef = w; letter = letter_power p K; powers = map (λ d. 2 * d) ds } ∷ [])) (is_zero-some w z)))

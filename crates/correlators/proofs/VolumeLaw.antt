@@ -1,40 +1,13 @@
 -- The terms of a volume are those of every solution.
-use Rattle.std.proofs.Common.{◌≡◌, ℕ, suc, ◌+◌, ◌-◌, ◌*◌, ◌<◌, ◌≤◌, Bool, true, false, List, [], ◌∷◌, map, length, get_or, Option, Some, None, refl, sym, ap, ap₂, subst, ◌∙◌, arith, pos}
-use mathlib.Core.Logic.{◌⊎◌, inl, inr}
-use Rattle.std.specs.Prelude.{cond, ltb, option_and_then}
-use Rattle.std.proofs.lemmas.Bool.{cases_lt, lt-ltb, le-ltb, lt-leb}
-use Rattle.airy_math.specs.Rational.{ℚ, ◌/ℚ◌, ◌*ℚ◌}
-use Rattle.airy_math.specs.RationalLaws.{0ℚ, *ℚ_assoc, 0ℚ-*ℚ}
-use Rattle.airy_math.specs.Sums.{sum_over, when}
-use Rattle.airy_math.specs.Keys.{Key, euler, key_of, total, ordered, same_list}
-use Rattle.airy_math.specs.Shapes.{covers}
-use Rattle.airy_math.specs.Tensors.{Tensors, is_zero}
-use Rattle.airy_math.specs.Series.{Series}
-use Rattle.airy_math.specs.Solutions.{amplitude, factorials}
-use Rattle.airy_math.specs.Cuts.{power, letter_of}
-use Rattle.airy_math.specs.Ranks.{ListsPlanned}
-use Rattle.airy_math.proofs.SumLemmas.{*ℚ-0ℚ, 0ℚ_idr, sum-cong, sum-each}
-use Rattle.airy_math.proofs.PivotLaw.{when-zero}
-use Rattle.airy_math.proofs.PivotLemmas.{zero_number}
-use Rattle.airy_index.specs.Fields.{IsKey}
-use Rattle.sparse_tensor.specs.Entries.{looked_up}
-use Rattle.amp_plan.specs.Plans.{Planning, tensors_of, keys_of, rank_at}
-use Rattle.amp_plan.specs.Places.{are_below, letter_power}
-use Rattle.amp_terms.specs.declared.Outcome.{Outcome}
-use Rattle.series_law.specs.Amplitudes.{HoldsOutcomes}
-use Rattle.intersection_law.specs.Numbers.{volume_coefficient, length_factorials}
-use Rattle.correlators.specs.declared.polynomial.Term.{Term}
-use Rattle.correlators.specs.Divisions.{over_factorials}
-use Rattle.correlators.specs.Volumes.{Part, part, table_term, table_terms, table_coefficient, term_of, parts_of, value_of, coefficient_of, lists_up_to, greatest_sum, volume_terms}
-use Rattle.correlators.specs.Kept.{IsAsked, AreCoefficients, AddsTerms}
-use Rattle.correlators.specs.Laws.{IsShown, coefficient_in}
+use Rattle.std.proofs.Common.{◌≡◌, ℕ, suc, ◌+◌, ◌-◌, ◌*◌, ◌<◌, ◌≤◌, Bool, true, false, List, [], ◌∷◌, map, length, get_or, Option, Some, None, refl, sym, ap, ap₂, subst, ◌∙◌, arith, pos, ◌⊎◌, inl, inr, cond, ltb, option_and_then}
+use Rattle.correlators.proofs.Words.{cases_lt, lt-leb, ℚ, ◌/ℚ◌, ◌*ℚ◌, 0ℚ, *ℚ_assoc, 0ℚ-*ℚ, sum_over, when, Key, euler, key_of, total, ordered, same_list, covers, Tensors, is_zero, Series, amplitude, factorials, power, letter_of, ListsPlanned, *ℚ-0ℚ, 0ℚ_idr, sum-cong, sum-each, when-zero, zero_number, IsKey, looked_up, Planning, tensors_of, keys_of, rank_at, are_below, letter_power, Outcome, HoldsOutcomes, volume_coefficient, length_factorials, Term, over_factorials, Part, part, table_term, table_terms, table_coefficient, term_of, parts_of, coefficient_of, lists_up_to, greatest_sum, volume_terms, IsAsked, AreCoefficients, AddsTerms, IsShown, coefficient_in, same_list-true, length-ordered}
+use Rattle.std.proofs.lemmas.Bool.{lt-ltb, le-ltb}
+use Rattle.correlators.specs.Volumes.{value_of}
 use Rattle.correlators.proofs.ExactLemmas.{all_exact}
-use Rattle.airy_math.proofs.PivotLaw.{same_list-true}
 use Rattle.correlators.proofs.ListedLemmas.{doubled_same, listed_up_to}
 use Rattle.correlators.proofs.NumberLaw.{amplitude_there}
-use Rattle.correlators.proofs.OrderLemmas.{exponents-ordered, factorials-ordered, sorted-ordered}
-use Rattle.correlators.proofs.TermLemmas.{below_all, total-ordered, covers_wp, placed, coefficient_at}
-use Rattle.airy_math.proofs.CutLaw.{length-ordered}
+use Rattle.correlators.proofs.OrderLemmas.{exponents-ordered, factorials-ordered, sorted-ordered, total-ordered}
+use Rattle.correlators.proofs.TermLemmas.{below_all, covers_wp, placed, coefficient_at}
 
 -- the terms that were added behind none are those of the volume
 pub terms_are : (p : Planning) (cells : List (Option Outcome)) (g n : ℕ) (numbers same : List ℚ) (terms : List Term) → AddsTerms p g n numbers (lists_up_to n (greatest_sum g n)) [] terms

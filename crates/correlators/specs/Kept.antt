@@ -1,3 +1,4 @@
+-- For private functions and for proofs: no public contract rests on this file.
 -- What the steps of a volume keep.
 use Prim.Native.Nat.{ℕ, ◌<◌, ◌≤◌}
 use mathlib.Core.Path.{◌≡◌}
@@ -6,7 +7,8 @@ use mathlib.Core.List.{List, ◌++◌, map}
 use mathlib.Core.Logic.{◌⊎◌}
 use lib.ListN.{length, get_or}
 use Rattle.std.specs.Prelude.{Option, Some, option_map}
-use Rattle.airy_math.specs.Rational.{ℚ}
+use lib.IntN.{pos}
+use Rattle.airy_math.specs.Rational.{ℚ, ◌/ℚ◌}
 use Rattle.airy_math.specs.RationalLaws.{0ℚ}
 use Rattle.airy_math.specs.Sums.{each}
 use Rattle.airy_math.specs.Keys.{Key, euler}
@@ -31,7 +33,7 @@ pub record IsAsked (p : Planning) (g n : ℕ) : Type 0 where
 
 -- the number of a key of (g,n), and 0 for each other
 unfoldable pub own_number : ℕ → ℕ → (Key → Option ℚ) → Key → Option ℚ
-own_number g n number key = cond (is_of g n key) (number key) (Some 0ℚ)
+own_number g n number key = cond (is_of g n key) (number key) (Some (pos 0 /ℚ 1))
 
 -- The numbers of the first ranks: those of the keys of (g,n) are their coefficients.
 pub record AreCoefficients (p : Planning) (cells : List (Option Outcome)) (g n count : ℕ) (numbers : List ℚ) : Type 0 where

@@ -4,7 +4,7 @@ ghost use Rattle.correlators.specs.Volumes.{is_of, keys_of_pair, value_of, coeff
 ghost use Rattle.correlators.specs.Kept.{own_number, AreCoefficients, TellsOver};
 
 use crate::CorrErr;
-use crate::divisions::over_all;
+use crate::divisions::over_each;
 use airy_index::Key;
 use amp_plan::Plan;
 use amp_terms::Table;
@@ -20,41 +20,44 @@ fn is_of_pair(key: &Key, g: u8, n: u8) -> bool
 }
 
 /// The Value of a key of (g,n), or 0 of another key, by rank.
+#[tactic(auto, using(crate::proofs::PairLemmas::value_here), unfolding(crate::specs::Kept::own_number))]
 fn own_value(plan: &Plan, table: &Table, g: u8, n: u8, rank: u32) -> Option<Frac>
     requires len { length table.now ≡ length (keys_of plan.now) }
     requires within { rank < length (keys_of plan.now) }
     ensures { result ≡ own_number g n (value_of plan.now table.now) (key_at plan.now rank) }
 {
     plan.planned_fact();
-    if !is_of_pair(&plan.keys()[rank as usize], g, n) {
+    if !is_of_pair(&plan.key(rank), g, n) {
         return Some(Frac::whole(0));
     }
     table.value(rank)
 }
 
 /// The Value of a key of (g,n) over the (2d + 1)! of its indices, or 0 of another key, by rank.
+#[tactic(auto, using(crate::proofs::PairLemmas::coefficient_here), unfolding(crate::specs::Kept::own_number, crate::specs::Divisions::over_factorials))]
 fn own_coefficient(plan: &Plan, table: &Table, g: u8, n: u8, rank: u32) -> Option<Frac>
     requires len { length table.now ≡ length (keys_of plan.now) }
     requires within { rank < length (keys_of plan.now) }
     ensures { result ≡ own_number g n (coefficient_of plan.now table.now) (key_at plan.now rank) }
 {
     plan.planned_fact();
-    let key = &plan.keys()[rank as usize];
-    if !is_of_pair(key, g, n) {
+    let key = plan.key(rank);
+    if !is_of_pair(&key, g, n) {
         return Some(Frac::whole(0));
     }
-    over_all(table.value(rank)?, key.idx())
+    over_each(table.value(rank)?, key.idx(), 1)
 }
 
 /// The first key of (g,n), in plan order, without a Value.
+#[tactic(auto, using(crate::proofs::PairLemmas::lacking_start, crate::proofs::PairLemmas::lacking_here, crate::proofs::PairLemmas::lacking_next, crate::proofs::PairLemmas::lacking_end))]
 pub(crate) fn first_without(plan: &Plan, table: &Table, g: u8, n: u8) -> Option<Key>
     requires { length table.now ≡ length (keys_of plan.now) }
     ensures { result ≡ first_lacking (value_of plan.now table.now) (keys_of_pair plan.now g n) }
 {
     for rank in 0..plan.len() {
-        if own_value(plan, table, g, n, rank).is_none() {
+        let Some(_) = own_value(plan, table, g, n, rank) else {
             return Some(plan.key(rank));
-        }
+        };
     }
     None
 }

@@ -5,7 +5,7 @@ ghost use Rattle.correlators.specs.Numbers.{number_in, number_of};
 ghost use Rattle.correlators.specs.Laws.{NumberOfSolutions};
 
 use crate::CorrErr;
-use crate::divisions::over_odd;
+use crate::divisions::over_each;
 use airy_index::Key;
 use amp_plan::{Place, Plan};
 use amp_terms::Table;
@@ -21,6 +21,7 @@ use frac128::Frac;
 /// division leaves the range. Where each filled cell of the table holds its rank's outcome, the number is that of every solution.
 ///
 /// It takes no memory.
+#[tactic(auto, unfolding(crate::specs::Numbers::number_in))]
 pub fn number(plan: &Plan, table: &Table, key: &Key) -> Result<Frac, CorrErr>
     requires { length table.now ≡ length (keys_of plan.now) }
     ensures answer { result ≡ number_in plan.now table.now key.now }
@@ -40,13 +41,14 @@ pub fn number(plan: &Plan, table: &Table, key: &Key) -> Result<Frac, CorrErr>
 }
 
 /// The Value of a key over the product of the (2d + 1)!!.
+#[tactic(auto, unfolding(crate::specs::Divisions::over_odd_factorials))]
 fn quotient(value: Option<Frac>, key: &Key) -> Result<Frac, CorrErr>
     ensures { result ≡ number_of key.now value }
 {
     let Some(value) = value else {
         return Err(CorrErr::NotValue { key: key.copy() });
     };
-    match over_odd(value, key.idx()) {
+    match over_each(value, key.idx(), 2) {
         Some(quotient) => Ok(quotient),
         None => Err(CorrErr::Over { key: key.copy() }),
     }

@@ -9,7 +9,6 @@ use amp_terms::{Outcome, Table, one_thread};
 use frac128::Frac;
 use sparse_tensor::{PutErr, Tensors};
 use std::alloc::Global;
-use std::test::Fail;
 
 /// The fraction num / den, or 0 where it is none.
 fn fraction(num: i128, den: i128) -> Frac {
@@ -21,11 +20,8 @@ fn thin() -> Frac {
     fraction(1, 1 << 126)
 }
 
-fn planned(alloc: Global, tensors: Tensors, bound: u8) -> Result<Plan, Fail> {
-    match Plan::make(alloc, tensors, bound) {
-        Ok(plan) => Ok(plan),
-        Err(_) => Err("plan".into()),
-    }
+fn planned(alloc: Global, tensors: Tensors, bound: u8) -> Option<Plan> {
+    Plan::make(alloc, tensors, bound).ok()
 }
 
 // ---- numbers
@@ -40,21 +36,21 @@ fn put_wk(t: &mut Tensors) -> Result<(), PutErr> {
 }
 
 #[tactic(auto, unfolding(sparse_tensor::specs::Grades::IsSmallLaw))]
-fn wk(alloc: Global) -> Result<Plan, Fail> {
+fn wk(alloc: Global) -> Option<Plan> {
     let shape = Shape::Exact(Law { per_g: 3, per_n: 1 });
-    let mut t = Tensors::empty(alloc, 5, shape, false)?;
-    put_wk(&mut t)?;
+    let mut t = Tensors::empty(alloc, 5, shape, false).ok()?;
+    put_wk(&mut t).ok()?;
     planned(alloc, t, 3)
 }
 
 /// The law of Witten and Kontsevich up to 1, with `D^1` too thin for a division where 1 is an index, and else 0.
 #[tactic(auto, unfolding(sparse_tensor::specs::Grades::IsSmallLaw))]
-fn thin_wk(alloc: Global, two_indices: bool) -> Result<Plan, Fail> {
+fn thin_wk(alloc: Global, two_indices: bool) -> Option<Plan> {
     let shape = Shape::Exact(Law { per_g: 3, per_n: 1 });
     let dim = if two_indices { 2 } else { 1 };
-    let mut t = Tensors::empty(alloc, dim, shape, false)?;
+    let mut t = Tensors::empty(alloc, dim, shape, false).ok()?;
     if two_indices {
-        t.put_d(1, thin())?;
+        t.put_d(1, thin()).ok()?;
     }
     planned(alloc, t, 1)
 }
@@ -76,14 +72,6 @@ fn has_numbers(plan: &Plan, table: &Table) -> bool
     requires { length table.now ≡ length (keys_of plan.now) }
 {
     has_number(plan, table, 2, 4, 1, 1152) && has_number(plan, table, 1, 0, 0, 1)
-}
-
-#[test]
-fn numbers_of_a_table(rt: HostRuntime) -> Result<(), Fail> {
-    let plan = wk(rt.alloc())?;
-    let table = one_thread(rt.alloc(), &plan)?;
-    assert!(rt; has_numbers(&plan, &table));
-    Ok(())
 }
 
 /// Whether the key has that genus, and that index alone.
@@ -124,31 +112,6 @@ fn refuses_over_and_beyond(plan: &Plan, table: &Table) -> bool
     refuses_number(plan, table, 1, 1, "Over") && refuses_number(plan, table, 2, 4, "Beyond")
 }
 
-#[test]
-fn a_number_whose_division_leaves_the_range(rt: HostRuntime) -> Result<(), Fail> {
-    let plan = thin_wk(rt.alloc(), true)?;
-    let table = one_thread(rt.alloc(), &plan)?;
-    assert!(rt; refuses_over_and_beyond(&plan, &table));
-    Ok(())
-}
-
-#[test]
-fn a_number_without_a_value(rt: HostRuntime) -> Result<(), Fail> {
-    let plan = thin_wk(rt.alloc(), true)?;
-    let table = Table::empty(rt.alloc(), plan.len())?;
-    let same = table.len() == plan.len();
-    assert!(rt; same && refuses_number(&plan, &table, 1, 1, "NotValue"));
-    Ok(())
-}
-
-#[test]
-fn a_number_whose_index_is_not_below_dim(rt: HostRuntime) -> Result<(), Fail> {
-    let plan = thin_wk(rt.alloc(), false)?;
-    let table = one_thread(rt.alloc(), &plan)?;
-    assert!(rt; refuses_number(&plan, &table, 1, 1, "Index"));
-    Ok(())
-}
-
 // ---- volumes
 
 /// The entries of Weil and Petersson's tensors that 1,1 and 0,4 rest on, up to 2, without the letter.
@@ -162,21 +125,21 @@ fn put_wp(t: &mut Tensors) -> Result<(), PutErr> {
 }
 
 #[tactic(auto, unfolding(sparse_tensor::specs::Grades::IsSmallLaw, sparse_tensor::specs::Grades::IsAtMost))]
-fn wp(alloc: Global) -> Result<Plan, Fail> {
+fn wp(alloc: Global) -> Option<Plan> {
     let shape = Shape::AtMost(Law { per_g: 3, per_n: 1 });
-    let mut t = Tensors::empty(alloc, 3, shape, true)?;
-    put_wp(&mut t)?;
+    let mut t = Tensors::empty(alloc, 3, shape, true).ok()?;
+    put_wp(&mut t).ok()?;
     planned(alloc, t, 2)
 }
 
 /// The law of Weil and Petersson, all entries 0.
 #[tactic(auto, unfolding(sparse_tensor::specs::Grades::IsSmallLaw, sparse_tensor::specs::Grades::IsAtMost))]
-fn no_wp(alloc: Global, dim: u8, letter: bool, bound: u8) -> Result<Plan, Fail>
+fn no_wp(alloc: Global, dim: u8, letter: bool, bound: u8) -> Option<Plan>
     requires some { 1 ≤ dim }
     requires most { dim ≤ 72 }
 {
     let shape = Shape::AtMost(Law { per_g: 3, per_n: 1 });
-    let t = Tensors::empty(alloc, dim, shape, letter)?;
+    let t = Tensors::empty(alloc, dim, shape, letter).ok()?;
     planned(alloc, t, bound)
 }
 
@@ -232,14 +195,6 @@ fn has_sphere(alloc: Global, plan: &Plan, table: &Table) -> bool
     }
 }
 
-#[test]
-fn volumes_of_a_table(rt: HostRuntime) -> Result<(), Fail> {
-    let plan = wp(rt.alloc())?;
-    let table = one_thread(rt.alloc(), &plan)?;
-    assert!(rt; has_torus(rt.alloc(), &plan, &table) && has_sphere(rt.alloc(), &plan, &table));
-    Ok(())
-}
-
 /// Whether there is no volume, for the refusal with this name; the key that it names is 1,1 with this index.
 fn is_refused(answer: &Result<Poly, CorrErr>, name: &str, index: u8) -> bool {
     match answer {
@@ -259,41 +214,27 @@ fn refuses(alloc: Global, plan: &Plan, table: &Table, g: u8, n: u8, name: &str, 
     is_refused(&answer, name, index)
 }
 
-/// Whether tensors without the letter refuse any pair, also one beyond the bound, and a number those with it.
+/// Whether tensors without the letter refuse any pair, also one beyond the bound.
 #[tactic(auto, unfolding(airy_math::specs::Keys::euler))]
-fn refuse_kind(alloc: Global, plan: &Plan, lettered: &Plan, table: &Table) -> bool
-    requires len { length table.now ≡ length (keys_of plan.now) }
-    requires lettered { length table.now ≡ length (keys_of lettered.now) }
+fn refuses_kind(alloc: Global, plan: &Plan, table: &Table) -> bool
+    requires { length table.now ≡ length (keys_of plan.now) }
 {
-    refuses(alloc, plan, table, 1, 1, "Kind", 0)
-        && refuses(alloc, plan, table, 2, 10, "Kind", 0)
-        && refuses_number(lettered, table, 1, 0, "Kind")
-        && refuses_number(lettered, table, 2, 4, "Kind")
+    refuses(alloc, plan, table, 1, 1, "Kind", 0) && refuses(alloc, plan, table, 2, 10, "Kind", 0)
 }
 
-#[test]
-fn kinds_without_a_volume_or_a_number(rt: HostRuntime) -> Result<(), Fail> {
-    let plan = no_wp(rt.alloc(), 1, false, 1)?;
-    let lettered = no_wp(rt.alloc(), 1, true, 1)?;
-    let table = one_thread(rt.alloc(), &plan)?;
-    let same = table.len() == lettered.len();
-    assert!(rt; same && refuse_kind(rt.alloc(), &plan, &lettered, &table));
-    Ok(())
+/// Whether tensors with it refuse any number.
+fn refuses_number_kind(plan: &Plan, table: &Table) -> bool
+    requires { length table.now ≡ length (keys_of plan.now) }
+{
+    refuses_number(plan, table, 1, 0, "Kind") && refuses_number(plan, table, 2, 4, "Kind")
 }
 
 /// Whether the volume of (2,10) is refused by that name. It has 1,144,066 lists, and its greatest index is 13.
 #[tactic(auto, unfolding(airy_math::specs::Keys::euler))]
-fn refuses_large(alloc: Global, bound: u8, name: &str) -> Result<bool, Fail> {
-    let plan = no_wp(alloc, 1, true, bound)?;
-    let table = one_thread(alloc, &plan)?;
-    Ok(refuses(alloc, &plan, &table, 2, 10, name, 0))
-}
-
-#[test]
-fn a_volume_beyond_the_bound_or_with_many_terms(rt: HostRuntime) -> Result<(), Fail> {
-    assert!(rt; refuses_large(rt.alloc(), 11, "Beyond")?);
-    assert!(rt; refuses_large(rt.alloc(), 12, "Terms")?);
-    Ok(())
+fn refuses_large(alloc: Global, plan: &Plan, table: &Table, name: &str) -> bool
+    requires { length table.now ≡ length (keys_of plan.now) }
+{
+    refuses(alloc, plan, table, 2, 10, name, 0)
 }
 
 /// Whether the pair (0,4) is refused for an index, and not for the key without a Value.
@@ -302,15 +243,6 @@ fn refuses_index(alloc: Global, plan: &Plan, table: &Table) -> bool
     requires { length table.now ≡ length (keys_of plan.now) }
 {
     refuses(alloc, plan, table, 0, 4, "Index", 0)
-}
-
-#[test]
-fn a_volume_whose_index_is_not_below_dim(rt: HostRuntime) -> Result<(), Fail> {
-    let plan = no_wp(rt.alloc(), 1, true, 2)?;
-    let table = Table::empty(rt.alloc(), plan.len())?;
-    let same = table.len() == plan.len();
-    assert!(rt; same && refuses_index(rt.alloc(), &plan, &table));
-    Ok(())
 }
 
 /// Sets the Value at a rank, and answers whether the pair (1,1) is then refused by that name at the key with this index.
@@ -337,12 +269,122 @@ fn refuses_torus(alloc: Global, plan: &Plan, table: &mut Table) -> bool {
         && refuses_with(alloc, plan, table, 1, Frac::whole(0), "Over", 1)
 }
 
+// ---- tests
+
+/// What a test shows: of a number, or of a volume.
+enum Case {
+    Numbers,
+    NumberKind,
+    NumberOver,
+    NumberNotValue,
+    NumberIndex,
+    Volumes,
+    VolumeKind,
+    VolumeBeyond,
+    VolumeTerms,
+    VolumeIndex,
+    VolumeNotValueOrOver,
+}
+
+fn plan_of(alloc: Global, case: &Case) -> Option<Plan> {
+    match case {
+        Case::Numbers => wk(alloc),
+        Case::NumberKind => no_wp(alloc, 1, true, 1),
+        Case::NumberOver => thin_wk(alloc, true),
+        Case::NumberNotValue => thin_wk(alloc, true),
+        Case::NumberIndex => thin_wk(alloc, false),
+        Case::Volumes => wp(alloc),
+        Case::VolumeKind => no_wp(alloc, 1, false, 1),
+        Case::VolumeBeyond => no_wp(alloc, 1, true, 11),
+        Case::VolumeTerms => no_wp(alloc, 1, true, 12),
+        Case::VolumeIndex => no_wp(alloc, 1, true, 2),
+        Case::VolumeNotValueOrOver => no_wp(alloc, 2, true, 1),
+    }
+}
+
+/// The table of the plan, or, where a key is to have no Value, an empty one.
+fn table_of(alloc: Global, plan: &Plan, case: &Case) -> Option<Table> {
+    match case {
+        Case::NumberNotValue => Table::empty(alloc, plan.len()).ok(),
+        Case::VolumeIndex => Table::empty(alloc, plan.len()).ok(),
+        Case::VolumeNotValueOrOver => Table::empty(alloc, plan.len()).ok(),
+        _ => one_thread(alloc, plan).ok(),
+    }
+}
+
+fn shows(alloc: Global, plan: &Plan, table: &mut Table, case: &Case) -> bool
+    requires { length table.old ≡ length (keys_of plan.now) }
+{
+    match case {
+        Case::Numbers => has_numbers(plan, table),
+        Case::NumberKind => refuses_number_kind(plan, table),
+        Case::NumberOver => refuses_over_and_beyond(plan, table),
+        Case::NumberNotValue => refuses_number(plan, table, 1, 1, "NotValue"),
+        Case::NumberIndex => refuses_number(plan, table, 1, 1, "Index"),
+        Case::Volumes => has_torus(alloc, plan, table) && has_sphere(alloc, plan, table),
+        Case::VolumeKind => refuses_kind(alloc, plan, table),
+        Case::VolumeBeyond => refuses_large(alloc, plan, table, "Beyond"),
+        Case::VolumeTerms => refuses_large(alloc, plan, table, "Terms"),
+        Case::VolumeIndex => refuses_index(alloc, plan, table),
+        Case::VolumeNotValueOrOver => refuses_torus(alloc, plan, table),
+    }
+}
+
+fn is_shown(alloc: Global, case: &Case) -> bool {
+    let Some(plan) = plan_of(alloc, case) else {
+        return false;
+    };
+    let Some(mut table) = table_of(alloc, &plan, case) else {
+        return false;
+    };
+    table.len() == plan.len() && shows(alloc, &plan, &mut table, case)
+}
+
+fn are_shown(alloc: Global, one: &Case, other: &Case) -> bool {
+    is_shown(alloc, one) && is_shown(alloc, other)
+}
+
 #[test]
-fn a_volume_without_a_value_or_whose_division_leaves_the_range(
-    rt: HostRuntime,
-) -> Result<(), Fail> {
-    let plan = no_wp(rt.alloc(), 2, true, 1)?;
-    let mut table = Table::empty(rt.alloc(), plan.len())?;
-    assert!(rt; refuses_torus(rt.alloc(), &plan, &mut table));
-    Ok(())
+fn numbers_of_a_table(rt: HostRuntime) {
+    assert!(rt; is_shown(rt.alloc(), &Case::Numbers));
+}
+
+#[test]
+fn a_number_whose_division_leaves_the_range(rt: HostRuntime) {
+    assert!(rt; is_shown(rt.alloc(), &Case::NumberOver));
+}
+
+#[test]
+fn a_number_without_a_value(rt: HostRuntime) {
+    assert!(rt; is_shown(rt.alloc(), &Case::NumberNotValue));
+}
+
+#[test]
+fn a_number_whose_index_is_not_below_dim(rt: HostRuntime) {
+    assert!(rt; is_shown(rt.alloc(), &Case::NumberIndex));
+}
+
+#[test]
+fn volumes_of_a_table(rt: HostRuntime) {
+    assert!(rt; is_shown(rt.alloc(), &Case::Volumes));
+}
+
+#[test]
+fn kinds_without_a_volume_or_a_number(rt: HostRuntime) {
+    assert!(rt; are_shown(rt.alloc(), &Case::VolumeKind, &Case::NumberKind));
+}
+
+#[test]
+fn a_volume_beyond_the_bound_or_with_many_terms(rt: HostRuntime) {
+    assert!(rt; are_shown(rt.alloc(), &Case::VolumeBeyond, &Case::VolumeTerms));
+}
+
+#[test]
+fn a_volume_whose_index_is_not_below_dim(rt: HostRuntime) {
+    assert!(rt; is_shown(rt.alloc(), &Case::VolumeIndex));
+}
+
+#[test]
+fn a_volume_without_a_value_or_whose_division_leaves_the_range(rt: HostRuntime) {
+    assert!(rt; is_shown(rt.alloc(), &Case::VolumeNotValueOrOver));
 }

@@ -1,4 +1,4 @@
-ghost use Rattle.std.specs.Prelude.{◌≡◌, ◌<◌, ◌≤◌, true, [], length, OnOk, IfOk};
+ghost use Rattle.std.specs.Prelude.{◌≡◌, ◌<◌, ◌≤◌, true, [], length, None, OnOk, IfOk};
 ghost use Rattle.airy_math.specs.Keys.{euler};
 ghost use Rattle.airy_math.specs.Families.{wp_shape};
 ghost use Rattle.amp_plan.specs.Plans.{keys_of};
@@ -49,7 +49,6 @@ pub fn volume(alloc: Global, plan: &Plan, table: &Table, g: u8, n: u8) -> Result
         Ok(coefficients) => coefficients,
         Err(refusal) => return Err(refusal),
     };
-    plan.limits_fact();
     plan.planned_fact();
     let source = Source {
         plan,
@@ -64,11 +63,14 @@ pub fn volume(alloc: Global, plan: &Plan, table: &Table, g: u8, n: u8) -> Result
 }
 
 /// What the plan and the pair alone refuse.
+#[tactic(auto, unfolding(crate::specs::Volumes::asked_refusal, airy_math::specs::Keys::euler))]
 fn refused(plan: &Plan, g: u8, n: u8) -> Option<CorrErr>
     requires stable { 0 < euler g n }
     requires some { 1 ≤ n }
     requires most { n ≤ 26 }
-    ensures { result ≡ asked_refusal plan.now g n }
+    requires law { plan.now.tensors.letter ≡ true → plan.now.tensors.shape ≡ wp_shape }
+    ensures answer { result ≡ asked_refusal plan.now g n }
+    ensures asked { result ≡ None → IsAsked plan.now g n }
 {
     if !plan.tensors().letter() {
         return Some(CorrErr::Kind);

@@ -32,8 +32,8 @@ use Rattle.series_law.proofs.JobLaw.{one_times, without_letter}
 use Rattle.series_law.proofs.PivotsLaw.{cut_uniqueness, cut_solution, cut_orders}
 use Rattle.series_law.proofs.SameTablesLaw.{same_tables}
 use Rattle.airy_math.specs.Curves.{curve, whole_curve}
-use Rattle.airy_curve.specs.Cuts.{IsCurveCut}
-use Rattle.airy_curve.proofs.CurveCuts.{curve_cut_law}
+use Rattle.relation_law.specs.Cuts.{IsCurveCut}
+use Rattle.relation_law.proofs.CurveCuts.{curve_cut_law}
 use Rattle.curve_law.specs.Tables.{IsCurveTable, CurveTableLaw}
 
 -- ---- the tensors of the plan themselves

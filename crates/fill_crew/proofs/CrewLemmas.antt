@@ -1,6 +1,6 @@
 -- The seats of a crew, before and behind its run; and all seats of a board, swept.
 use Rattle.std.proofs.Common.{◌≡◌, ℕ, zero, suc, ◌+◌, ◌<◌, Bool, true, false, List, [], ◌∷◌, ◌++◌, length, map, get_or, Option, None, Some, refl, sym, ap, ap₂, ◌∙◌, subst, arith, true≢false, length-append, append-nil, append_assoc, ◌||◌, slice_index}
-use Rattle.amp_plan.proofs.RowLemmas.{has-append}
+use Rattle.amp_plan.proofs.RowLemmas.{has-append, has-at}
 use Rattle.std.proofs.Math.ListN.{get_or-append, get_or-map}
 use Rattle.std.proofs.Math.Seq.{get_or-append_seam}
 use Rattle.std.proofs.lemmas.List.{same_lists}
@@ -10,7 +10,6 @@ use Rattle.amp_terms.specs.Tables.{full_table}
 use Rattle.amp_terms.proofs.OutcomeLemmas.{length-all}
 use Rattle.cell_words.specs.Starts.{can_start, starts}
 use Rattle.cell_words.proofs.AloneLemmas.{same_numbers}
-use Rattle.cell_words.proofs.BookLemmas.{has_at}
 use Rattle.cell_words.specs.declared.countdown.Countdown.{Countdown}
 use Rattle.cell_words.specs.declared.countdown.CountSeat.{CountSeat}
 use Rattle.cell_words.proofs.Names.{length-map, get_or_default, dite, ℕ_discrete, Planning, tensors_of, has, Outcome, Over, cells, outcome_at, Known, view_of, AreAll, IsAfter, receipts_of}
@@ -48,7 +47,7 @@ worked_more b s t u xs h idle number done keeps = record {
 -- a rank that is ready at the start is a rank of the plan
 pub start_low : (p : Planning) (carried : List ℕ) (k : ℕ) → k < length (starts p carried) → slice_index (starts p carried) k < cells p
 unfolding starts
-start_low p carried k l = (keep-row (can_start p carried) (cells p)).small (get_or (starts p carried) k 0) (has_at (starts p carried) k l)
+start_low p carried k l = (keep-row (can_start p carried) (cells p)).small (get_or (starts p carried) k 0) (has-at (starts p carried) k l)
 
 -- ---- a sweep
 
@@ -118,7 +117,7 @@ swept_more b n old mid new h all len after fills stays others = record {
         dite (ℕ_discrete r n) (λ is. (more r).0 (ap (λ k. has k (receipts_of mid)) is ∙ e)) (λ other. (more r).0 (h.filled r (omega (arith, l, other))))
     by false e r l =
         let more = more_receipts mid new (n ∷ []) len some (λ d. fills d e) others in
-        dite (ℕ_discrete r n) (λ is. (more r).1 (ap (λ k. has k (n ∷ [])) is ∙ has_at (n ∷ []) 0 (omega arith))) (λ other. (more r).0 (h.filled r (omega (arith, l, other))))
+        dite (ℕ_discrete r n) (λ is. (more r).1 (ap (λ k. has k (n ∷ [])) is ∙ has-at (n ∷ []) 0 (omega arith))) (λ other. (more r).0 (h.filled r (omega (arith, l, other))))
 
 -- before the first rank nothing was swept
 pub swept_none : (b : Countdown) (ss : List CountSeat) → AreAll b ss → AreSwept b 0 ss ss

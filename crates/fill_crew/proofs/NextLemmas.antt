@@ -1,19 +1,15 @@
 -- The next level of a frontier board.
-use Rattle.std.proofs.Common.{◌≡◌, ℕ, ◌<◌, ◌≤◌, ◌+◌, List, take, length, arith, sym, ap, ◌∙◌, subst, slice_index_or}
+use Rattle.std.proofs.Common.{◌≡◌, ℕ, ◌<◌, ◌≤◌, ◌+◌, List, length, arith, sym, ap, ◌∙◌, subst, slice_index_or}
 use Rattle.std.proofs.lemmas.List.{same_lists}
 use Rattle.cell_words.specs.Levels.{level_after}
 use Rattle.cell_words.specs.declared.frontier.Frontier.{Frontier}
-use Rattle.cell_words.specs.declared.frontier.FillSeat.{FillSeat}
 use Rattle.cell_words.proofs.LevelLemmas.{level-ranks, level-inside}
 use Rattle.cell_words.proofs.FillerLemmas.{length-taken, level-length, level-outcome}
-use Rattle.cell_words.proofs.Names.{euler_of, Planning, key_at, Outcome, cells, all_outcomes, outcome_at, cells_to, IsFiller}
+use Rattle.cell_words.proofs.Names.{euler_of, Planning, key_at, Outcome, cells, outcome_at, cells_to}
 use Rattle.fill_crew.specs.Levels.{IsPublished}
 
 pub published-many : (b : Frontier) (k : ℕ) (l : List Outcome) → IsPublished b k l → length l ≡ cells_to b.plan k
 published-many b k l h = ap length h.outcomes ∙ length-taken b.plan (cells_to b.plan k) (level-inside b.plan k (let e = h.next in omega arith))
-
-pub is-published : (b : Frontier) (f : FillSeat) (k : ℕ) (l : List Outcome) → k ≡ f.published → l ≡ f.outcomes.items → IsFiller b f → f.published < b.plan.bound → IsPublished b k l
-is-published b f k l e is filler next = record { next = omega (arith, e, next); outcomes = is ∙ filler.outcomes ∙ ap (λ n. take (cells_to b.plan n) (all_outcomes b.plan)) (sym e) }
 
 -- the rank i of the next level
 pub record IsNext (p : Planning) (k n r : ℕ) : Type 0 where

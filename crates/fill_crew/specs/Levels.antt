@@ -1,3 +1,4 @@
+-- For private functions and for proofs: no public contract rests on this file.
 -- The outcomes of the published levels of a frontier board.
 use Rattle.std.specs.Prelude.{◌≡◌, ℕ, ◌+◌, ◌<◌, List, take, slice_index_or}
 use Rattle.amp_plan.specs.Plans.{Planning}

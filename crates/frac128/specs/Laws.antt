@@ -23,8 +23,10 @@ pub record SchoolRules : Type 0 where
   pub lowest : (x : ℚ) → IsLowest x x.num x.den
   pub equal : (x y : ℚ) (n m : ℤ) (d e : ℕ) → IsNumber x n d → IsNumber y m e → (x ≡ y) ↔ (n *ℤ pos e ≡ m *ℤ pos d)
   pub negative : (x : ℚ) (n : ℤ) (d : ℕ) → IsNumber x n d → IsNumber (neg_ℚ x) (neg_ℤ n) d
-  pub sum : (x y s : ℚ) (n m : ℤ) (d e : ℕ) → IsNumber x n d → IsNumber y m e → obtained_sum x y ≡ Some s → IsNumber s (n *ℤ pos e +ℤ m *ℤ pos d) (d * e)
-  pub product : (x y p : ℚ) (n m : ℤ) (d e : ℕ) → IsNumber x n d → IsNumber y m e → obtained_product x y ≡ Some p → IsNumber p (n *ℤ m) (d * e)
+  pub sum : (x y s : ℚ) (n m : ℤ) (d e : ℕ) → IsNumber x n d → IsNumber y m e → obtained_sum x y ≡ Some s
+      → IsNumber s (n *ℤ pos e +ℤ m *ℤ pos d) (d * e)
+  pub product : (x y p : ℚ) (n m : ℤ) (d e : ℕ) → IsNumber x n d → IsNumber y m e → obtained_product x y ≡ Some p
+      → IsNumber p (n *ℤ m) (d * e)
 
 -- from -(2^127-1) to 2^127-1
 pub record IsWithin (z : ℤ) : Type 0 where
@@ -43,5 +45,6 @@ pub record SumWithin (a : ℤ) (b : ℕ) (c : ℤ) (d : ℕ) : Type 0 where
 -- where the two numbers p and q of it in lowest terms are.
 pub record RangeRules : Type 0 where
   pub sum : (x y : ℚ) (a c : ℤ) (b d : ℕ) → IsLowest x a b → IsLowest y c d → IsSome (obtained_sum x y) ↔ SumWithin a b c d
-  pub product : (x y : ℚ) (n m p : ℤ) (d e q : ℕ) → IsNumber x n d → IsNumber y m e → 0 < q → gcd (unsigned_abs p) q ≡ 1 → (n *ℤ m) *ℤ pos q ≡ p *ℤ pos (d * e)
+  pub product : (x y : ℚ) (n m p : ℤ) (d e q : ℕ) → IsNumber x n d → IsNumber y m e → 0 < q → gcd (unsigned_abs p) q ≡ 1
+      → (n *ℤ m) *ℤ pos q ≡ p *ℤ pos (d * e)
       → IsSome (obtained_product x y) ↔ (IsWithin p × IsWithin (pos q))

@@ -1,3 +1,4 @@
+-- For private functions and for proofs: no public contract rests on this file.
 -- Whole numbers as a size with a sign.
 use Rattle.std.specs.Prelude.{ℕ, ℤ, pos, negsuc, neg_ℤ, Bool, true, false}
 

@@ -1,3 +1,4 @@
+-- For private functions and for proofs: no public contract rests on this file.
 -- The numbers of a product and of a sum of two fractions, and where they are in range.
 use Rattle.std.specs.Prelude.{ℕ, ◌/◌, ◌*◌, ◌^◌, ℤ, pos, ◌+ℤ◌, ◌*ℤ◌, unsigned_abs, int_div, Bool, ◌&&◌, nat_lt, cond, Option, Some, None}
 use Rattle.std.specs.Option.{option_and_then}

@@ -28,8 +28,9 @@ use Rattle.airy_math.proofs.FamilyLaw.{wk_graded, wk_symmetric}
 use Rattle.airy_math.proofs.SolutionLaw.{amp, amplitude_law, all_zeros}
 use Rattle.intersection_law.specs.Numbers.{odd_factorial, odd_factorials, intersection_number}
 use Rattle.intersection_law.specs.Equations.{AreUpTo, lowered, correlator, WittenLaw}
-use Rattle.intersection_law.proofs.PlaceLemmas.{below_from_up_to, lower-raise, quotient-times, odd_factorials_pos, IsLowered, at_pred, sum-lowered, IsWithout, has_zero, sum-whole}
+use Rattle.intersection_law.proofs.PlaceLemmas.{below_from_up_to, quotient-times, odd_factorials_pos, IsLowered, at_pred, sum-lowered, IsWithout, has_zero, sum-whole}
 use Rattle.intersection_law.proofs.FirstIndex.{same_test, row-one, row-none, index_more, number_keeps}
+use Rattle.airy_math.proofs.ConverseLaw.{lower-raise}
 
 module _ (X M : ℕ) (f : Series) (so : Solves (wk M) X f) (g : ℕ) (ds : List ℕ) (up : AreUpTo M ds) (some : 0 < euler g (length ds)) (most : euler g (suc (length ds)) ≤ X) where
   abbrev e : List ℕ

@@ -1,3 +1,2 @@
 pub mod ExactLaw
-pub mod FillLemmas
 pub mod NumberLaw

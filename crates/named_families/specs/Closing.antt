@@ -15,4 +15,5 @@ abbrev pub BgwCloses : Type 0
 BgwCloses = (t : Entries) (M N : ℕ) → StandsFor t (bgw M) → 2 * N + 1 ≤ t.dim → MeetsRelations t N
 
 abbrev pub WpCloses : Type 0
-WpCloses = (t : Entries) (dim most N : ℕ) → StandsForLettered t (wp_cut dim most) → 2 * N + 1 ≤ t.dim → 2 * N + 1 ≤ most → MeetsRelations t N
+WpCloses = (t : Entries) (dim most N : ℕ) → StandsForLettered t (wp_cut dim most) → 2 * N + 1 ≤ t.dim → 2 * N + 1 ≤ most
+    → MeetsRelations t N

@@ -1,8 +1,8 @@
+-- For private functions and for proofs: no public contract rests on this file.
 -- The form that wk and bgw share: their law is exact, and its number for each place, the shift, is 1 for wk and 0 for bgw.
-use Prim.Native.Nat.{ℕ, ◌+◌, ◌*◌, ◌<◌, min}
+use Prim.Native.Nat.{ℕ, ◌+◌, ◌*◌, ◌<◌}
 use mathlib.Core.Path.{◌≡◌}
-use mathlib.Core.Bool.{Bool, ◌&&◌, ◌||◌}
-use lib.Dec.{eqb, ltb}
+use lib.Dec.{eqb}
 use lib.IntN.{pos}
 use Rattle.airy_math.specs.Rational.{ℚ, whole, ◌/ℚ◌}
 use Rattle.airy_math.specs.RationalLaws.{1ℚ}
@@ -25,21 +25,9 @@ exact_c shift i j k = when (eqb i (j + k + shift + 1)) 1ℚ
 unfoldable pub exact_d : ℕ → ℕ → ℚ
 exact_d shift i = when (eqb i shift) (pos 1 /ℚ 8)
 
--- Whether a walk through all j at i = 0, then all j at i = 1, and so on, which has come to n and m, has passed i and j.
-unfoldable pub is_done : ℕ → ℕ → ℕ → ℕ → Bool
-is_done n m i j = ltb i n || (eqb i n && ltb j m)
-
--- B is filled as far as the walk has come, and 0 elsewhere
-unfoldable pub FillsB : ℕ → ℕ → ℕ → Entries → Type 0
-FillsB shift n m t = (i j k : ℕ) → i < t.dim → j < t.dim → k < t.dim → (looked_up t).B i j k ≡ when (is_done n m i j) (exact_b shift i j k)
-
--- the same for C, by the lesser of its last two indices
-unfoldable pub FillsC : ℕ → ℕ → ℕ → Entries → Type 0
-FillsC shift n m t = (i j k : ℕ) → i < t.dim → j < t.dim → k < t.dim → (looked_up t).C i j k ≡ when (is_done n m i (min j k)) (exact_c shift i j k)
-
--- D is filled
-unfoldable pub FillsD : ℕ → Entries → Type 0
-FillsD shift t = (i : ℕ) → i < t.dim → (looked_up t).D i ≡ exact_d shift i
+-- the sequence whose only number is 1, at e
+unfoldable pub single : ℕ → ℕ → ℚ
+single e k = when (eqb k e) 1ℚ
 
 -- The entries of B, C and D are those of the law, and the rest is what it was.
 pub record IsFilled (shift : ℕ) (old new : Entries) : Type 0 where

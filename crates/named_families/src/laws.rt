@@ -6,7 +6,7 @@ pub fn wk_closes()
     ensures { WkCloses }
 {
     airy_math::below_dim();
-    airy_curve::wk_relations();
+    relation_law::wk_relations();
     airy_relations::no_difference();
 }
 
@@ -15,7 +15,7 @@ pub fn bgw_closes()
     ensures { BgwCloses }
 {
     airy_math::below_dim();
-    airy_curve::bgw_relations();
+    relation_law::bgw_relations();
     airy_relations::no_difference();
 }
 

@@ -1,10 +1,8 @@
 -- The causes of a run's status and completeness, by how the reports that it may lead to stand to what is meant.
 use Rattle.std.proofs.Common.{◌≡◌, ◌≢◌, ◌⊎◌, inl, inr, ℕ, ◌≤◌, ◌<◌, ◌==◌, [], arith, refl, sym, ap, ◌∙◌, subst, length, Some, Bool, true, false, List}
-use Rattle.run_reports.proofs.Names.{Rose, is_bound, Entries, TextReading, Read, Refused, reading_of, Report, bound_refused, out_of_memory, read_fault, text_too_long, line_refused, LeadsFromText, failed, wanting, long, refused, read, LeadsWithBound, beyond, within, of_reading, of_text, Run, Gives, AnswersBy, GivesBy, HasCausesBy, IsCompleteBy, IsInRange}
+use Rattle.run_reports.proofs.Names.{Rose, is_bound, Entries, TextReading, Read, Refused, reading_of, Report, bound_refused, out_of_memory, read_fault, text_too_long, line_refused, LeadsFromText, failed, wanting, long, refused, read, LeadsWithBound, beyond, within, of_reading, of_text, Run, Gives, AnswersBy, GivesBy, HasCausesBy, IsCompleteBy, IsInRange, Consumes, IsWhole}
 use Rattle.std.proofs.lemmas.Bool.Decides.{nat_tests}
-use Rattle.std.specs.Io.KnownBytes.{Consumes}
 use Rattle.tensor_text.specs.declared.refusals.LineKind.{LineKind}
-use Rattle.tensor_text.specs.Answers.{IsWhole}
 use Rattle.run_reports.proofs.SourceLemmas.{source_or, told_source, ended, no_longer, of_short, of_long}
 use Rattle.run_reports.proofs.StatusLemmas.{IsPlain, plain_ample, status_of}
 

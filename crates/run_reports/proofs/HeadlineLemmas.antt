@@ -1,10 +1,8 @@
 -- A printed table has the headline.
 use Rattle.std.proofs.Common.{◌≡◌, ℕ, ◌<◌, ◌≤◌, refl, ap, ◌∙◌, subst, length, List, [], get_or, cond}
-use Rattle.run_reports.proofs.Names.{Key, ℚ, ◌*ℚ◌, letter_of, power, Series, Solves, Tensors, planned, PlanLaw, key_at, place_of, Structure, Lettered, IsSound, IsSolutionOf, letter_value, planned_tensors, tensors_at, outcomes, full_table, value_of, JobUniquenessLaw, JobCheckedLaw, Shown, series_with, row_text, has_letter, whole_table, Headline, IsLine, ShowsNumber}
-use Rattle.airy_math.specs.Jobs.{Wk, Bgw, Wp, Bulk, Text}
+use Rattle.run_reports.proofs.Names.{Key, ℚ, ◌*ℚ◌, letter_of, power, Series, Solves, Tensors, planned, PlanLaw, key_at, place_of, Structure, Lettered, IsSound, IsSolutionOf, letter_value, planned_tensors, tensors_at, outcomes, full_table, value_of, JobUniquenessLaw, JobCheckedLaw, Shown, series_with, row_text, has_letter, whole_table, Headline, IsLine, ShowsNumber, Wk, Bgw, Wp, Bulk, Text, length-outcomes}
 use Rattle.airy_math.proofs.ExactLaw.{power-one}
 use Rattle.amp_terms.specs.declared.Outcome.TheVariants.{Value, Over}
-use Rattle.amp_terms.proofs.OutcomeLemmas.{length-outcomes}
 use Rattle.run_reports.proofs.LineLemmas.{lines_of, rows-lines, length-lines, line_at}
 
 -- the laws that the headline rests on

@@ -1,12 +1,11 @@
 -- The lines of a table, and what its check finds.
 use Rattle.std.proofs.Common.{◌≡◌, ℕ, zero, suc, ◌<◌, refl, ap, arith, length, List, [], ◌∷◌, ◌++◌, map, get_or, Bool, Some}
-use Rattle.run_reports.proofs.Names.{Key, planned, key_at, ℚ, Tensors, Shape, Outcome, has_value, outcomes, value_in, value_of, value_of_cell, Orders, check, check_keys, check_values, row_text, rows_text, verdict_of}
+use Rattle.run_reports.proofs.Names.{Key, planned, key_at, ℚ, Tensors, Shape, Outcome, has_value, outcomes, value_in, value_of, value_of_cell, Orders, check, check_keys, check_values, row_text, rows_text, verdict_of, length-outcomes}
 use Rattle.std.specs.List.{concat}
 use Rattle.amp_terms.specs.declared.Outcome.TheVariants.{Value, Over, Blocked}
 use Rattle.series_law.specs.Check.{Verdict, Solution, NotValue}
 use Rattle.series_law.specs.First.{IsFirst}
 use Rattle.series_law.proofs.FirstLaw.{first_finding}
-use Rattle.amp_terms.proofs.OutcomeLemmas.{length-outcomes}
 
 abbrev pub lines_of : Bool → Shape → List Key → List Outcome → List (List ℕ)
 lines_of letter shape [] os = []

@@ -1,8 +1,7 @@
 -- What is printed of a plan, and why there is none.
 use Rattle.std.proofs.Common.{subst, arith, ◌≡◌, ◌≢◌, ◌⊎◌, inl, inr, ℕ, refl, sym, ap, ◌∙◌, List, length, Option, Some}
-use Rattle.run_reports.proofs.Names.{Outcome, outcomes, planned, Entries, looked_up, Planning, keys_of, tensors_of, Within, limit_of, PlanCause, full_table, check, outcomes_of, Taking, Report, Ends, EndsOrWants, out_of_memory, bound_refused, checked_report, verdict_of, cells_report, plan_report, cause_report, stored_report}
+use Rattle.run_reports.proofs.Names.{Outcome, outcomes, planned, Entries, looked_up, Planning, keys_of, tensors_of, Within, limit_of, PlanCause, full_table, check, outcomes_of, Taking, Report, Ends, EndsOrWants, out_of_memory, bound_refused, checked_report, verdict_of, cells_report, plan_report, cause_report, stored_report, length-all}
 use Rattle.std.proofs.lemmas.List.{length-map}
-use Rattle.amp_terms.proofs.OutcomeLemmas.{length-all}
 use Rattle.amp_plan.specs.Limits.{Tells}
 use Rattle.amp_plan.specs.declared.PlanCause.TheVariants as cause
 use Rattle.series_law.specs.Check.{Verdict}

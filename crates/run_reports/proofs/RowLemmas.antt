@@ -1,8 +1,6 @@
 -- The lines of a table, one after the other.
-use Rattle.std.proofs.Common.{◌≡◌, ℕ, zero, suc, ◌+◌, ◌<◌, ◌≤◌, Bool, List, [], ◌∷◌, ◌++◌, length, take, drop, refl, sym, ap, ap₂, ◌∙◌, subst, arith, append_assoc, append-nil, add-one, Option, Some, None, Ok, Err}
-use Rattle.run_reports.proofs.Names.{Taking, Writes, Key, Shape, key_at, Outcome, value_at, value_of_cell, row_text, rows_text}
-use Rattle.std.specs.Io.KnownBytes.{Appends}
-use Rattle.airy_io.proofs.Prefixes.{AppendsPrefix-more}
+use Rattle.std.proofs.Common.{◌≡◌, ℕ, zero, suc, ◌+◌, ◌<◌, ◌≤◌, Bool, List, [], ◌∷◌, ◌++◌, length, take, drop, refl, sym, ap, ap₂, ◌∙◌, subst, arith, append_assoc, append-nil, add-one, Option, Ok, Err}
+use Rattle.run_reports.proofs.Names.{Taking, Writes, Key, Shape, key_at, Outcome, value_at, value_of_cell, row_text, rows_text, Appends, AppendsPrefix-more}
 
 -- the lines before a rank, its own, and those behind it
 pub rows-split : (letter : Bool) (shape : Shape) (keys : List Key) (cells : List (Option Outcome)) (r : ℕ) → r < length keys → length cells ≡ length keys
@@ -54,11 +52,3 @@ rows-done letter shape keys cells r a b x h l before kept = record {
   prefix = tt;
   cause = record { later = omega arith; failed = tt; kept = kept };
 }
-
-pub nothing_taken : (a : Option (List ℕ)) → Appends a a []
-nothing_taken None = tt
-nothing_taken (Some xs) = sym (append-nil xs)
-
--- nothing was written
-pub row-none : {T E : Type 0} (a : Taking) (x : T) → Writes {E = E} [] a a (Ok x)
-row-none a x = record { written = nothing_taken a.taken; prefix = tt; cause = record { later = omega arith; failed = tt; kept = refl } }

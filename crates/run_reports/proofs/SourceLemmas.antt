@@ -1,7 +1,6 @@
 -- What a job with a text says of its source, and which text is meant.
 use Rattle.std.proofs.Common.{◌≡◌, ◌≢◌, ◌⊎◌, inl, inr, ℕ, ◌≤◌, ◌<◌, ◌++◌, arith, refl, ap, ◌∙◌, length, append-nil, Option, Some, None, true, false, List, nat_le}
-use Rattle.run_reports.proofs.Names.{Giving, Rose, Entries, Report, read_fault, text_too_long, line_refused, Run, LeadsFromText, failed, wanting, long, refused, read, LeadsWithBound, beyond, within, of_reading, of_text}
-use Rattle.std.specs.Io.KnownBytes.{Consumes, IsAtEnd}
+use Rattle.run_reports.proofs.Names.{Giving, Rose, Entries, Report, read_fault, text_too_long, line_refused, Run, LeadsFromText, failed, wanting, long, refused, read, LeadsWithBound, beyond, within, of_reading, of_text, Consumes, IsAtEnd}
 use Rattle.tensor_text.specs.Grammar as grammar
 use Rattle.run_reports.proofs.StatusLemmas.{IsOther, status_of}
 

@@ -1,5 +1,5 @@
 -- The statuses of the reports that a job leads to where no end fails and memory is not wanting.
-use Rattle.std.proofs.Common.{◌≡◌, ◌≢◌, ◌⊎◌, inl, inr, ℕ, ◌<◌, ◌≤◌, arith, refl, sym, subst, ap, length, Option, Some, None, Bool, true, false, cond, List, nat_le}
+use Rattle.std.proofs.Common.{◌≡◌, ◌≢◌, ◌⊎◌, inl, inr, ℕ, ◌≤◌, arith, refl, sym, subst, ap, length, Option, Some, None, Bool, true, false, cond, List, nat_le}
 use Rattle.run_reports.proofs.Names.{planned, Tensors, Structure, planned_tensors, Limit, Within, PassesBound, PassesCells, PassesNeeds, limit, has_letter, making_over, table_report, full_table, Entries, looked_up, TextReading, Read, Refused, reading_of, Verdict, Closed, Differs, Over, verdict, Report, bound_refused, out_of_memory, making_report, plan_report, cells_report, checked_report, verdict_of, is_bound, text_too_long, line_refused, relations_report, of_relations, closed, of_reading, of_text}
 use Rattle.series_law.specs.Check as check
 
@@ -101,7 +101,3 @@ plain_table s X =
 
 pub status_of : {report whole : Report} → report ≡ whole → report.status ≡ whole.status
 status_of e = ap (λ (r : Report). r.status) e
-
-pub some_bound : (X : ℕ) → is_bound X ≡ true → 0 < X
-unfolding is_bound
-some_bound X e = grind arith

@@ -1,7 +1,6 @@
 -- What is printed of stored tensors is what is printed of those that they stand for.
 use Rattle.std.proofs.Common.{◌≢◌, arith, ◌≡◌, ◌⊎◌, inl, inr, ℕ, refl, sym, ap₂, subst, ◌∙◌, false, cond, true, Bool, List, Some, None, Option}
-use Rattle.run_reports.proofs.Names.{SameEntries, Key, Shape, Outcome, outcomes, planned, Structure, Lettered, planned_tensors, BelowDimLaw, PlanLaw, Tensors, SameTablesLaw, Entries, looked_up, Limit, limit, Within, PassesBound, PassesCells, PassesNeeds, full_table, check, FindsNoOrders, NoOrdersLaw, Close, AreSound, Taking, Report, Ends, EndsOrWants, out_of_memory, bound_refused, Names, MakeErr, checked_report, verdict_of, cells_report, plan_report, making_report, stored_report, is_bound, making_over, making_error, table_report, ArePlanned, text_structure, has_letter}
-use Rattle.airy_math.specs.Jobs.{Text}
+use Rattle.run_reports.proofs.Names.{SameEntries, Key, Shape, Outcome, outcomes, planned, Structure, Lettered, planned_tensors, BelowDimLaw, PlanLaw, Tensors, SameTablesLaw, Entries, looked_up, Limit, limit, Within, PassesBound, PassesCells, PassesNeeds, full_table, check, FindsNoOrders, NoOrdersLaw, Close, AreSound, Taking, Report, Ends, EndsOrWants, out_of_memory, bound_refused, Names, MakeErr, checked_report, verdict_of, cells_report, plan_report, making_report, stored_report, is_bound, making_over, making_error, table_report, ArePlanned, text_structure, has_letter, Text}
 use Rattle.series_law.specs.Check.{Verdict}
 use Rattle.series_law.specs.Check as check
 use Rattle.named_families.specs.declared.petersson.MakeErr.TheVariants as make
@@ -22,30 +21,27 @@ pub stood_report : (s : Structure) (t : Entries) (X : ℕ) → PlanLaw → Below
 stood_report s t X once below tables bounded made stored =
     planned_report s X bounded made ∙ sym (stored_same t (planned_tensors s X) (has_letter s) X once below tables stored.entries stored.letter)
 
+-- what holds of a text's structure, whether it carries the letter or not
+pub by_letter : (t : Entries) (P : Bool → Structure → Type 0) → P true (Lettered (looked_up t)) → P false (Text (looked_up t)) → P t.letter (text_structure t)
+unfolding text_structure
+by_letter t P with_it without = by t.letter
+  where
+    by : (b : Bool) → P b (cond b (Lettered (looked_up t)) (Text (looked_up t)))
+    by true = with_it
+    by false = without
+
 -- a text's own tensors and letter are those of its plan, and are always made
 pub text_planned : (t : Entries) (X : ℕ) → planned_tensors (text_structure t) X ≡ looked_up t
-unfolding text_structure planned_tensors
-text_planned t X = by t.letter
-  where
-    by : (b : Bool) → planned_tensors (cond b (Lettered (looked_up t)) (Text (looked_up t))) X ≡ looked_up t
-    by true = refl
-    by false = refl
+unfolding planned_tensors
+text_planned t X = by_letter t (λ b s. planned_tensors s X ≡ looked_up t) refl refl
 
 pub text_letter : (t : Entries) → has_letter (text_structure t) ≡ t.letter
-unfolding text_structure has_letter
-text_letter t = by t.letter
-  where
-    by : (b : Bool) → has_letter (cond b (Lettered (looked_up t)) (Text (looked_up t))) ≡ b
-    by true = refl
-    by false = refl
+unfolding has_letter
+text_letter t = by_letter t (λ b s. has_letter s ≡ b) refl refl
 
-text_made : (t : Entries) (X : ℕ) → making_over (text_structure t) X ≡ None
-unfolding text_structure making_over
-text_made t X = by t.letter
-  where
-    by : (b : Bool) → making_over (cond b (Lettered (looked_up t)) (Text (looked_up t))) X ≡ None
-    by true = refl
-    by false = refl
+pub text_made : (t : Entries) (X : ℕ) → making_over (text_structure t) X ≡ None
+unfolding making_over
+text_made t X = by_letter t (λ b s. making_over s X ≡ None) refl refl
 
 -- the report of a text's own tensors
 pub text_stored : (t : Entries) (X : ℕ) → is_bound X ≡ true → table_report (text_structure t) X ≡ stored_report t X

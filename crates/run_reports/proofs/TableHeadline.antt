@@ -1,12 +1,12 @@
 -- A printed table has the headline, and two index orders that differ leave no solution.
 use Rattle.std.proofs.Common.{◌≡◌, ℕ, ◌<◌, sym, ap, subst, arith}
-use Rattle.run_reports.proofs.Names.{Structure, IsSound, planned_tensors, Family, Report, verdict_of, structure_of, table_report, whole_table, Headline, HasTwoOrders, Step, outside, unmade, limited, blank, over, orders, whole}
+use Rattle.run_reports.proofs.Names.{Structure, IsSound, planned_tensors, Family, Report, verdict_of, structure_of, table_report, whole_table, Headline, HasTwoOrders, Step, outside, unmade, limited, blank, over, orders, whole, Solution}
 use Rattle.airy_math.specs.declared.Family.TheVariants as families
-use Rattle.series_law.specs.Check.{Solution}
 use Rattle.run_reports.proofs.LineLemmas.{values_found, differ_of}
-use Rattle.run_reports.proofs.StatusLemmas.{status_of, some_bound}
+use Rattle.run_reports.proofs.StatusLemmas.{status_of}
 use Rattle.run_reports.proofs.StepLaw.{table_steps}
 use Rattle.run_reports.proofs.HeadlineLemmas.{JobLaws, headline_by}
+use Rattle.command_words.proofs.ScriptLemmas.{bound_some}
 
 -- ---- the headline
 
@@ -27,7 +27,7 @@ whole_step s X e = by (table_steps s X)
     by (blank made r found h) = absurd (omega (arith, e, status_of h))
     by (over made key i found h) = absurd (omega (arith, e, status_of h))
     by (orders made key i a j b found h) = absurd (omega (arith, e, status_of h))
-    by (whole made found said) = (some_bound X made.bounded, found, said)
+    by (whole made found said) = (bound_some X made.bounded, found, said)
 
 -- and has the headline
 pub whole_of : JobLaws → (s : Structure) (X : ℕ) → IsSound s → (table_report s X).status ≡ 0
@@ -48,7 +48,7 @@ unsolvable_of laws s X sound e = by (table_steps s X)
     by (blank made r found h) = absurd (omega (arith, e, status_of h))
     by (over made key i found h) = absurd (omega (arith, e, status_of h))
     by (orders made key i a j b found said) =
-        let checked = laws.checked s X sound (some_bound X made.bounded) in record {
+        let checked = laws.checked s X sound (bound_some X made.bounded) in record {
           key = key;
           first = i;
           v1 = a;

@@ -1,14 +1,13 @@
 -- What a job with a text leads to, from what the reader says and what its tensors lead to.
-use Rattle.std.proofs.Common.{subst, ◌≡◌, ℕ, ◌≤◌, refl, ap, true, false, arith, Bool, Ok, Err, cond, ◌↔◌}
-use Rattle.run_reports.proofs.Names.{bound_refused, beyond, Lettered, IsSound, IsSolutionOf, planned_tensors, tensors_at, OwnTensorsLaw, ℚ, 1ℚ, Solves, Close, IsGraded, Entries, looked_up, AreSound, Giving, Taking, Report, Ends, out_of_memory, Verdict, Closed, Differs, Over, verdict, relations_report, of_relations, closed, text_report, is_bound, text_structure, AreClosed, IsOwn, failed, wanting, long, refused, read, within, EndsBy, EndsOfText, EndsWithBound}
+use Rattle.std.proofs.Common.{subst, ◌≡◌, ℕ, ◌≤◌, refl, ap, true, arith, Ok, Err, ◌↔◌}
+use Rattle.run_reports.proofs.Names.{bound_refused, beyond, Lettered, IsSound, IsSolutionOf, planned_tensors, tensors_at, OwnTensorsLaw, ℚ, 1ℚ, Solves, Close, IsGraded, Entries, looked_up, AreSound, Giving, Taking, Report, Ends, out_of_memory, Verdict, Closed, Differs, Over, verdict, relations_report, of_relations, closed, text_report, is_bound, text_structure, AreClosed, IsOwn, failed, wanting, long, refused, read, within, EndsBy, EndsOfText, EndsWithBound, Reads, HasReadCause}
 use Rattle.run_reports.specs.Inputs.{ReadsBounded, input_report}
 use Rattle.run_reports.specs.declared.texts.InputErr.{InputErr}
 use Rattle.run_reports.specs.declared.texts.InputErr.TheVariants as inputs
-use Rattle.airy_math.specs.Jobs.{Text}
-use Rattle.tensor_text.specs.Answers.{Reads, HasReadCause}
 use Rattle.tensor_text.specs.declared.refusals.TextErr.{TextErr}
 use Rattle.tensor_text.specs.declared.refusals.TextErr.TheVariants as texts
 use Rattle.series_law.specs.Letters.{WidenedRelationsLaw}
+use Rattle.run_reports.proofs.StructureLemmas.{by_letter}
 
 pub read_ends : (next : Entries → Report → Type 0) (old new : Giving) (w w' : Taking) (status : ℕ) (t : Entries)
     → Reads old new (Ok t) → HasReadCause {T = Entries} old.faults new.faults (Ok t) → EndsBy (next t) w w' status → EndsOfText next old new w w' status
@@ -38,33 +37,27 @@ input_ends X next old new w w' status (inputs.Bound n) reads e = (bound_refused 
 input_ends X next old new w w' status (inputs.Text why) reads e = within_bound X next old new w w' status reads.0 (refusal_ends next old new w w' status why reads.1 reads.2 e)
 
 pub text_sound : (t : Entries) → AreSound t → IsSound (text_structure t)
-unfolding text_structure IsSound
-text_sound t sound = by t.letter
-  where
-    by : (b : Bool) → IsSound (cond b (Lettered (looked_up t)) (Text (looked_up t)))
-    by true = (sound.symmetric, sound.graded)
-    by false = (sound.symmetric, sound.graded)
+unfolding IsSound
+text_sound t sound = by_letter t (λ b s. IsSound s) (sound.symmetric, sound.graded) (sound.symmetric, sound.graded)
 
 -- at its own dim the job's solutions are those of the text's own tensors
 pub own_of : OwnTensorsLaw → (X : ℕ) (t : Entries) → IsOwn X t
-unfolding text_structure planned_tensors tensors_at looked_up
-own_of own X t f = by t.letter
+unfolding planned_tensors tensors_at looked_up
+own_of own X t f = by_letter t (λ b s. IsSolutionOf s X t.dim 1ℚ f ↔ Solves (looked_up t) X f) with_it (own (looked_up t) X 1ℚ f)
   where
-    by : (b : Bool) → IsSolutionOf (cond b (Lettered (looked_up t)) (Text (looked_up t))) X t.dim 1ℚ f ↔ Solves (looked_up t) X f
-    by false = own (looked_up t) X 1ℚ f
-    by true = (
+    with_it : IsSolutionOf (Lettered (looked_up t)) X t.dim 1ℚ f ↔ Solves (looked_up t) X f
+    with_it = (
       λ h. (own (looked_up t) X 1ℚ f).0 (record { wide = h.wide; solves = h.solves }),
       λ h. let g = (own (looked_up t) X 1ℚ f).1 h in record { wide = g.wide; solves = g.solves },
     )
 
 -- the relations of the entries are those of the job's tensors, at every dim and with every fraction
 pub are_closed : WidenedRelationsLaw → (t : Entries) → IsGraded (looked_up t) → Close (looked_up t) t.dim → AreClosed t
-unfolding text_structure tensors_at looked_up
-are_closed law t graded close = record { own = close; everywhere = by t.letter }
-  where
-    by : (b : Bool) (m : ℕ) (v : ℚ) → t.dim ≤ m → Close (tensors_at (cond b (Lettered (looked_up t)) (Text (looked_up t))) m v) m
-    by true m v wide = law (looked_up t) graded close m v wide
-    by false m v wide = law (looked_up t) graded close m 1ℚ wide
+unfolding tensors_at looked_up
+are_closed law t graded close = record {
+  own = close;
+  everywhere = by_letter t (λ b s. (m : ℕ) (v : ℚ) → t.dim ≤ m → Close (tensors_at s m v) m) (λ m v wide. law (looked_up t) graded close m v wide) (λ m v wide. law (looked_up t) graded close m 1ℚ wide);
+}
 
 -- where a check of the entries' relations fails: the report is what it leads to, whatever comes behind it, and its status is 4 or 6
 pub fails_by : {leads : Report → Type 0} (t : Entries) (next : Report) (w w' : Taking) (status : ℕ) (v : Verdict) → v ≡ verdict (looked_up t) t.dim → (v ≡ Closed → ⊥)

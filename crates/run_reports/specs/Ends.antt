@@ -1,3 +1,4 @@
+-- For private functions and for proofs: no public contract rests on this file.
 -- What a part of a run ends with: a report that its words lead to, told or cut.
 use Rattle.std.specs.Prelude.{◌⊎◌, ℕ}
 use Rattle.airy_io.specs.Causes.{Giving, Taking}

@@ -1,5 +1,5 @@
--- In which form a table is printed: its rows, or a summary.
-use Rattle.std.specs.Prelude.{ℕ, ◌-◌, Bool, cond, nat_eq, length, List, [], ◌++◌, codes, decimal, Option, Some, None}
+-- In which form a whole table is printed; and its summary.
+use Rattle.std.specs.Prelude.{ℕ, ◌-◌, ◌==◌, Bool, cond, length, List, [], ◌++◌, codes, decimal, Option, Some, None}
 use Rattle.airy_math.specs.Rational.{ℚ}
 use Rattle.airy_math.specs.Keys.{Key, total}
 use Rattle.airy_math.specs.declared.Shape.{Shape}
@@ -11,11 +11,9 @@ use Rattle.amp_plan.specs.Plans.{Planning}
 use Rattle.amp_plan.specs.Plans as plans
 use Rattle.amp_terms.specs.declared.Outcome.{Outcome}
 use Rattle.amp_terms.specs.Tables.{full_table, value_at}
-use Rattle.sparse_tensor.specs.Entries.{Entries, looked_up}
-use Rattle.run_reports.specs.declared.tables.Form.{Form}
-use Rattle.run_reports.specs.declared.tables.Form.TheVariants.{Rows, Summary}
+use Rattle.sparse_tensor.specs.Entries.{Entries}
 use Rattle.run_reports.specs.Report.{Report}
-use Rattle.run_reports.specs.Tables.{row_text, plan_cells, stored_report}
+use Rattle.run_reports.specs.Tables.{row_text, plan_cells, stored_report, table_text}
 
 -- `cells N` and the like
 unfoldable pub count_text : List ℕ → ℕ → List ℕ
@@ -37,22 +35,26 @@ summary_text letter T X =
     count_text (codes "cells ") (length (planned T X)) ++ (count_text (codes "needs ") (total (need_counts T X))
     ++ (last_of letter T.shape (planned T X) (full_table T X) ++ codes "solution\n"))
 
--- the same refusals, and in the place of a whole table its summary
-unfoldable pub summed : Bool → Tensors → ℕ → Report → Report
-summed letter T X report = record { status = report.status; bytes = cond (nat_eq report.status 0) (summary_text letter T X) report.bytes }
+-- a report, with other bytes in the place of those of status 0
+unfoldable pub in_place : List ℕ → Report → Report
+in_place bytes report = cond (report.status == 0) (record { status = 0; bytes = bytes }) report
 
--- the report of a table in the form that is asked for
-abbrev pub formed : Form → Bool → Tensors → ℕ → Report → Report
-formed Rows letter T X report = report
-formed Summary letter T X report = summed letter T X report
+-- the same refusals, and in the place of a whole table its summary
+abbrev pub summed : Bool → Tensors → ℕ → Report → Report
+summed letter T X report = in_place (summary_text letter T X) report
 
 -- ---- what the code's parts write
 
-abbrev pub formed_cells : Form → Planning → Report
-formed_cells form p = formed form p.tensors.letter (plans.tensors_of p) p.bound (plan_cells p)
+-- the report of a plan's cells, and of the plan of stored tensors up to X, with what a form has of the plan in the place of a whole table
+abbrev pub formed_cells : (Planning → List ℕ) → Planning → Report
+formed_cells bytes p = in_place (bytes p) (plan_cells p)
 
-abbrev pub formed_stored : Form → Entries → ℕ → Report
-formed_stored form t X = formed form t.letter (looked_up t) X (stored_report t X)
+abbrev pub formed_stored : (Planning → List ℕ) → Entries → ℕ → Report
+formed_stored bytes t X = in_place (bytes (record { tensors = t; bound = X })) (stored_report t X)
+
+-- the lines of a plan's whole table
+abbrev pub plan_rows : Planning → List ℕ
+plan_rows p = table_text p (full_table (plans.tensors_of p) p.bound)
 
 abbrev pub plan_summary : Planning → List ℕ
 plan_summary p = summary_text p.tensors.letter (plans.tensors_of p) p.bound

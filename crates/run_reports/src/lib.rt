@@ -16,5 +16,5 @@ pub use relations::{say_relations, say_verdict};
 pub use report::{
     put_fraction, refuse, refuse_bound, refuse_key, refuse_memory, refuse_number, refuse_word, say,
 };
-pub use tables::{Form, print_stored, print_table, refuse_plan};
+pub use tables::{Form, Summary, print_formed, print_stored, print_table, refuse_plan};
 pub use texts::{InputErr, read_bounded, refuse_input, refuse_text};

@@ -1,9 +1,9 @@
-ghost use Rattle.std.specs.Prelude.{◌≡◌, ◌≢◌, ◌<◌, ◌≤◌, ◌++◌, codes, length, Some};
+ghost use Rattle.std.specs.Prelude.{◌≡◌, ◌≢◌, ℕ, ◌<◌, ◌≤◌, ◌++◌, codes, length, List, Some, None};
 ghost use Rattle.airy_io.specs.Causes.{Writes};
-ghost use Rattle.amp_plan.specs.Plans.{keys_of, tensors_of};
-ghost use Rattle.amp_terms.specs.Tables.{full_table, value_at};
+ghost use Rattle.amp_plan.specs.Plans.{Planning, keys_of, tensors_of};
+ghost use Rattle.amp_terms.specs.Tables.{first_without, full_table, value_at};
 ghost use Rattle.run_reports.specs.Report.{Ends, EndsOrWants, Report};
-ghost use Rattle.run_reports.specs.Tables.{rank_text, table_text, cause_report};
+ghost use Rattle.run_reports.specs.Tables.{rank_text, table_text, cause_report, stored_report};
 ghost use Rattle.run_reports.specs.Forms.{count_text, formed_cells, formed_stored, plan_last, plan_rest, plan_summary, rank_last};
 
 use crate::pivots::{refuse_orders, refuse_pivot};
@@ -18,26 +18,74 @@ use sparse_tensor::Tensors;
 use std::alloc::Global;
 use std::thread::Threads;
 
-/// In which form a table is printed: a line for each key, or a summary of four lines.
-#[derive(Clone, Copy, Debug, PartialEq, Eq)]
-pub enum Form {
-    Rows,
-    Summary,
+/// What is printed of a whole table that is a solution.
+pub trait Form {
+    ghost bytes: { Self → Planning → List ℕ };
+
+    /// Prints it, of the table of a plan in which each key has a Value.
+    fn print<W: Sink>(&self, alloc: Global, plan: &Plan, table: &Table, out: &mut W) -> u8
+        requires full { table.now ≡ full_table (tensors_of plan.now) plan.now.bound }
+        requires values { first_without table.now ≡ None }
+        ensures { EndsOrWants (record { status = 0; bytes = bytes self.now plan.now }) (W.state out.old) (W.state out.new) result };
 }
 
-/// Plans, fills, checks and prints the table of stored tensors.
+/// A line for each key.
+#[derive(Drop)]
+struct Rows;
+
+impl Form for Rows {
+    ghost use Rattle.run_reports.specs.Forms.{plan_rows};
+
+    ghost bytes = { λ form p. plan_rows p };
+
+    fn print<W: Sink>(&self, _alloc: Global, plan: &Plan, table: &Table, out: &mut W) -> u8 {
+        print_table(plan, table, out)
+    }
+}
+
+/// A summary of four lines: `cells N`, `needs N`, `last KEY VALUE` and `solution`.
+#[derive(Drop)]
+pub struct Summary;
+
+impl Form for Summary {
+    ghost use Rattle.run_reports.specs.Forms.{plan_summary};
+
+    ghost bytes = { λ form p. plan_summary p };
+
+    fn print<W: Sink>(&self, _alloc: Global, plan: &Plan, table: &Table, out: &mut W) -> u8 {
+        print_summary(plan, table, out)
+    }
+}
+
+/// Plans, fills and checks the table of stored tensors, and prints its lines.
 pub fn print_stored<R: Threads + Sync, W: Sink, G: Gate + Sync>(
     rt: &R,
     alloc: Global,
     tensors: Tensors,
     bound: u8,
-    form: Form,
     workers: u8,
     gate: &G,
     out: &mut W,
 ) -> u8
     requires { workers ≤ 16 }
-    ensures { EndsOrWants (formed_stored form tensors bound) (W.state out.old) (W.state out.new) result }
+    ensures { EndsOrWants (stored_report tensors bound) (W.state out.old) (W.state out.new) result }
+{
+    print_formed(rt, alloc, tensors, bound, &Rows, workers, gate, out)
+}
+
+/// Plans, fills and checks the table of stored tensors, and prints it in a form.
+pub fn print_formed<R: Threads + Sync, W: Sink, G: Gate + Sync, F: Form>(
+    rt: &R,
+    alloc: Global,
+    tensors: Tensors,
+    bound: u8,
+    form: &F,
+    workers: u8,
+    gate: &G,
+    out: &mut W,
+) -> u8
+    requires { workers ≤ 16 }
+    ensures { EndsOrWants (formed_stored (F.bytes form.now) tensors bound) (W.state out.old) (W.state out.new) result }
 {
     match Plan::make(alloc, tensors, bound) {
         Ok(plan) => fill_and_print(rt, alloc, plan, form, workers, gate, out),
@@ -60,17 +108,17 @@ pub fn refuse_plan<W: Sink>(out: &mut W, cause: &PlanCause) -> u8
 
 /// Fills the plan's table, checks every pivot, and prints the table; or names the first key without a Value, or the first pivot that
 /// fails.
-fn fill_and_print<R: Threads + Sync, W: Sink, G: Gate + Sync>(
+fn fill_and_print<R: Threads + Sync, W: Sink, G: Gate + Sync, F: Form>(
     rt: &R,
     alloc: Global,
     plan: Plan,
-    form: Form,
+    form: &F,
     workers: u8,
     gate: &G,
     out: &mut W,
 ) -> u8
     requires { workers ≤ 16 }
-    ensures { EndsOrWants (formed_cells form plan) (W.state out.old) (W.state out.new) result }
+    ensures { EndsOrWants (formed_cells (F.bytes form.now) plan) (W.state out.old) (W.state out.new) result }
 {
     match fill_all(rt, alloc, plan, workers, gate) {
         Ok(filled) => {
@@ -81,18 +129,18 @@ fn fill_and_print<R: Threads + Sync, W: Sink, G: Gate + Sync>(
 }
 
 /// Checks every pivot of a filled table by so many workers and this thread, and prints it.
-fn check_and_print<R: Threads + Sync, W: Sink>(
+fn check_and_print<R: Threads + Sync, W: Sink, F: Form>(
     rt: &R,
     alloc: Global,
     plan: &Plan,
     table: &Table,
-    form: Form,
+    form: &F,
     workers: u8,
     out: &mut W,
 ) -> u8
     requires full { table.now ≡ full_table (tensors_of plan.now) plan.now.bound }
     requires workers { workers ≤ 16 }
-    ensures { Ends (formed_cells form plan.now) (W.state out.old) (W.state out.new) result }
+    ensures { EndsOrWants (formed_cells (F.bytes form.now) plan.now) (W.state out.old) (W.state out.new) result }
 {
     match check_crew(rt, alloc, plan, table, workers) {
         CheckEnd::NotValue { key } => refuse_key(out, 6, b"over at ", &key),
@@ -104,10 +152,7 @@ fn check_and_print<R: Threads + Sync, W: Sink>(
             second,
             v2,
         } => refuse_orders(out, &key, (first, v1), (second, v2)),
-        CheckEnd::Solution => match form {
-            Form::Rows => print_table(plan, table, out),
-            Form::Summary => print_summary(plan, table, out),
-        },
+        CheckEnd::Solution => form.print(alloc, plan, table, out),
     }
 }
 

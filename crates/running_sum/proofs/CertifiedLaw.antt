@@ -15,9 +15,7 @@ use Rattle.airy_math.specs.Rational.{ℚ, ◌/ℚ◌, ◌+ℚ◌, positive, copr
 use Rattle.airy_math.specs.RationalLaws.{0ℚ, add_fractions, mul_fractions}
 use Rattle.airy_math.specs.Obtained.{fits, obtained_sum, obtained_product, obtained_from, both_obtained}
 use Rattle.running_sum.specs.Certified.{total, sizes, CertifiedLaw}
-
-pub positive-product : (d e : ℕ) → 0 < d → 0 < e → 0 < d * e
-positive-product d e p q = grind arith
+use Rattle.airy_math.proofs.ConstraintLemmas.{both_positive}
 
 fits-true : (z : ℤ) → unsigned_abs z < 2 ^ 127 → fits z ≡ true
 unfolding fits
@@ -66,7 +64,7 @@ part-small z q m p h = let l = at (unsigned_abs z) q p in let e = unsigned_abs-m
     at n q p = grind arith
 
 pub raised : (n : ℤ) (d k : ℕ) → 0 < d → 0 < k → n /ℚ d ≡ (n *ℤ pos k) /ℚ (d * k)
-raised n d k p q = same_fraction _ _ _ _ p (positive-product d k p q) (at n (pos d) (pos k))
+raised n d k p q = same_fraction _ _ _ _ p (both_positive d k p q) (at n (pos d) (pos k))
   where
     at : (n d k : ℤ) → n *ℤ (d *ℤ k) ≡ (n *ℤ k) *ℤ d
     at n d k = simp ring_z
@@ -78,7 +76,7 @@ unfolding obtained_product
 product n m d e p q hn hd =
     let s = mul_fractions n m d e p q in
     let z = (n *ℤ m) /ℚ (d * e) in
-    let t = times_of (n *ℤ m) (d * e) (positive-product d e p q) in
+    let t = times_of (n *ℤ m) (d * e) (both_positive d e p q) in
     let a = fits-true z.num (part-small z.num _ _ t.some (subst (λ u. unsigned_abs u < 2 ^ 127) t.num hn)) in
     let b = fits-true (pos z.den) (part-small (pos z.den) _ _ t.some (subst (λ u. u < 2 ^ 127) t.den hd)) in
     rw (s, a, b) refl
@@ -142,7 +140,7 @@ sum n m D p hd hn hm hs =
     (fits-true r (part-small r e _ some (subst (λ u. unsigned_abs u < 2 ^ 127) em hm)))
     (fits-true (l +ℤ r) (part-small (l +ℤ r) e _ some (subst (λ u. unsigned_abs u < 2 ^ 127) es hs)))
     (fits-true (pos (x.den / g * (y.den / k))) (omega arith))
-    ∙ ap Some (add_fractions n m D D p p ∙ same_fraction _ _ _ _ (positive-product D D p p) p (at n m (pos D)))
+    ∙ ap Some (add_fractions n m D D p p ∙ same_fraction _ _ _ _ (both_positive D D p p) p (at n m (pos D)))
   where
     at : (n m d : ℤ) → (n *ℤ d +ℤ m *ℤ d) *ℤ d ≡ (n +ℤ m) *ℤ (d *ℤ d)
     at n m d = simp ring_z

@@ -1,18 +1,19 @@
 -- Sums and products of fractions that need not be in lowest terms.
-use Rattle.std.proofs.Common.{◌≡◌, subst, ℕ, zero, suc, ◌+◌, ◌-◌, ◌*◌, ◌<◌, ◌≤◌, refl, sym, ◌∙◌, ap, ap₂, arith, ℤ, pos, negsuc, ◌+ℤ◌, ◌*ℤ◌, unsigned_abs}
-use Rattle.std.specs.Prelude.{Option, Some, None, ◌^◌, nat_eq, true, false, not, FitsSigned}
-use Rattle.std.specs.Option.{is_some}
+use Rattle.std.proofs.Common.{◌≡◌, subst, ℕ, zero, suc, ◌+◌, ◌-◌, ◌*◌, ◌/◌, ◌<◌, ◌≤◌, refl, sym, ◌∙◌, ap, ap₂, arith, ℤ, pos, negsuc, ◌+ℤ◌, ◌*ℤ◌, unsigned_abs}
+use Rattle.std.specs.Prelude.{Option, Some, None, ◌^◌, nat_eq, false, FitsSigned}
 use lib.Dec.{eqb}
 use Rattle.std.specs.Int.{w64}
 use Rattle.std.proofs.lemmas.Int.{unsigned_abs-mul, ints}
 use Rattle.std.proofs.lemmas.Nat.{pow_pos, pow-add, mul-lt, mul-le, shl_below, pow_below}
-use Rattle.std.proofs.Math.Nat.{pow-le-pow_right}
+use Rattle.std.proofs.Math.Nat.{pow-le-pow_right, div-div-eq-div-mul, lt-div-mul-add, mul-lt-mul_of_pos_right}
 use mathlib.Core.Logic.{◌⊎◌, inl, inr}
 use Rattle.std.proofs.lemmas.Bool.{cases_lt}
-use Rattle.airy_math.specs.Rational.{ℚ, ◌/ℚ◌, positive, cross, parts_lem, whole}
+use Rattle.airy_math.specs.Rational.{ℚ, ◌/ℚ◌, positive, cross, parts_lem}
 use Rattle.airy_math.specs.Obtained.{obtained_sum, obtained_product, both_obtained, ◌⊛◌}
 use Rattle.running_sum.specs.Kept.{fraction_of}
-use Rattle.running_sum.proofs.CertifiedLaw.{raised, product, sum, positive-product}
+use Rattle.running_sum.specs.Sizes.{IsRaisedSum}
+use Rattle.running_sum.proofs.CertifiedLaw.{raised, product, sum}
+use Rattle.airy_math.proofs.ConstraintLemmas.{both_positive}
 
 pub some_of : (n : ℤ) (o k : ℕ) → 0 < o → fraction_of n o k ≡ Some (n /ℚ (o * 2 ^ k))
 unfolding fraction_of
@@ -66,9 +67,9 @@ product_of n m (suc o) zero k l h d = ap (λ t. fraction_of (n *ℤ m) t (k + l)
     times-zero o = omega arith
 product_of n m (suc o) (suc p) k l h d =
     let e = dens (suc o) (suc p) k l in
-    some_of (n *ℤ m) (suc o * suc p) (k + l) (positive-product (suc o) (suc p) (omega arith) (omega arith))
+    some_of (n *ℤ m) (suc o * suc p) (k + l) (both_positive (suc o) (suc p) (omega arith) (omega arith))
     ∙ sym (ap₂ (both_obtained obtained_product) (some_of n (suc o) k (omega arith)) (some_of m (suc p) l (omega arith)) ∙ both_some obtained_product _ _
-    ∙ product n m (suc o * 2 ^ k) (suc p * 2 ^ l) (positive-product (suc o) (2 ^ k) (omega arith) (pow_pos k)) (positive-product (suc p) (2 ^ l) (omega arith) (pow_pos l)) h (omega arith)
+    ∙ product n m (suc o * 2 ^ k) (suc p * 2 ^ l) (both_positive (suc o) (2 ^ k) (omega arith) (pow_pos k)) (both_positive (suc p) (2 ^ l) (omega arith) (pow_pos l)) h (omega arith)
     ∙ ap (λ t. Some ((n *ℤ m) /ℚ t)) e)
 
 -- ---- sums
@@ -79,7 +80,7 @@ over_more n zero k f w t p e h = absurd (omega arith)
 over_more n (suc o) k zero w t p e h = absurd (omega arith)
 over_more n (suc o) k (suc f) w t p e h =
     some_of n (suc o) k (omega arith)
-    ∙ ap Some (raised n (suc o * 2 ^ k) (suc f * 2 ^ (t - k)) (positive-product (suc o) (2 ^ k) (omega arith) (pow_pos k)) (positive-product (suc f) (2 ^ (t - k)) (omega arith) (pow_pos (t - k)))
+    ∙ ap Some (raised n (suc o * 2 ^ k) (suc f * 2 ^ (t - k)) (both_positive (suc o) (2 ^ k) (omega arith) (pow_pos k)) (both_positive (suc f) (2 ^ (t - k)) (omega arith) (pow_pos (t - k)))
     ∙ ap (λ d. (n *ℤ pos (suc f * 2 ^ (t - k))) /ℚ d) (dens (suc o) (suc f) k (t - k) ∙ ap₂ (λ a b. a * 2 ^ b) e (back k t h)))
   where
     back : (k t : ℕ) → k ≤ t → k + (t - k) ≡ t
@@ -93,7 +94,7 @@ sum_of n m x y s o p k l f g w t some eo ep hk hl d ex ey es hx hy hs =
     some_of s w t some ∙ ap (λ z. Some (z /ℚ (w * 2 ^ t))) es
     ∙ sym (ap₂ (both_obtained obtained_sum) (over_more n o k f w t some eo hk ∙ ap (λ z. Some (z /ℚ (w * 2 ^ t))) (sym ex)) (over_more m p l g w t some ep hl ∙ ap (λ z. Some (z /ℚ (w * 2 ^ t))) (sym ey))
     ∙ both_some obtained_sum _ _
-    ∙ sum x y (w * 2 ^ t) (positive-product w (2 ^ t) some (pow_pos t)) d hx hy (rw es at hs))
+    ∙ sum x y (w * 2 ^ t) (both_positive w (2 ^ t) some (pow_pos t)) d hx hy (rw es at hs))
 
 -- ---- numbers by their lengths
 
@@ -120,37 +121,56 @@ pub from_fraction : (v : ℚ) (o t : ℕ) → o * 2 ^ t ≡ v.den → fraction_o
 from_fraction v zero t e = absurd (omega (arith, positive v))
 from_fraction v (suc o) t e = some_of v.num (suc o) t (omega arith) ∙ ap (λ d. Some (v.num /ℚ d)) e ∙ ap Some (parts_lem v)
 
-pub few_twos : (o t d : ℕ) → o * 2 ^ t ≡ d → 0 < d → d < 2 ^ 127 → t < 127
-few_twos zero t d e p h = absurd (omega arith)
-few_twos (suc o) t d e p h = by (cases_lt t 127)
+pub odd_above : (o t d : ℕ) → o * 2 ^ t ≡ d → 0 < d → 0 < o
+odd_above zero t d e p = absurd (omega arith)
+odd_above (suc o) t d e p = omega arith
+
+pub few_twos : (k o t d : ℕ) → o * 2 ^ t ≡ d → 0 < d → d < 2 ^ k → t < k
+few_twos k zero t d e p h = absurd (omega arith)
+few_twos k (suc o) t d e p h = by (cases_lt t k)
   where
-    by : (t < 127) ⊎ (127 ≤ t) → t < 127
+    by : (t < k) ⊎ (k ≤ t) → t < k
     by (inl l) = l
-    by (inr l) = let m : 2 ^ 127 ≤ 2 ^ t = pow-le-pow_right (omega arith) l in absurd (omega arith)
+    by (inr l) = let m : 2 ^ k ≤ 2 ^ t = pow-le-pow_right (omega arith) l in absurd (omega arith)
 
 pub size-odds : (o p i j t : ℕ) → o < 2 ^ i → p < 2 ^ j → i + j + t ≤ 127 → o * p < 2 ^ 127
 size-odds o p i j t a b h = below-power (o * p) (i + j) (let l = mul-lt o p (2 ^ i) (2 ^ j) a b in let e = pow-add 2 i j in omega arith) (omega arith)
 
 -- the sum over one denominator
-pub sum_same : (n m y s : ℤ) (o k l : ℕ) → l ≤ k → o * 2 ^ k < 2 ^ 127 → y ≡ m *ℤ pos (1 * 2 ^ (k - l)) → s ≡ n +ℤ y → unsigned_abs n < 2 ^ 127 → unsigned_abs y < 2 ^ 127 → unsigned_abs s < 2 ^ 127
+pub sum_same : (n m s : ℤ) (o k l : ℕ) → l ≤ k → o * 2 ^ k < 2 ^ 127 → unsigned_abs n < 2 ^ 127 → IsRaisedSum n m (k - l) s
     → fraction_of s o k ≡ both_obtained obtained_sum (fraction_of n o k) (fraction_of m o l)
-sum_same n m y s zero k l h d ey es hn hy hs = none_of s k ∙ sym (ap (λ t. both_obtained obtained_sum t (fraction_of m 0 l)) (none_of n k) ∙ none_left obtained_sum _)
-sum_same n m y s (suc o) k l h d ey es hn hy hs = sum_of n m n y s (suc o) (suc o) k l 1 1 (suc o) k (omega arith) (omega arith) (omega arith) (omega arith) h d (self n k) ey es hn hy hs
+sum_same n m s zero k l h d hn r = none_of s k ∙ sym (ap (λ t. both_obtained obtained_sum t (fraction_of m 0 l)) (none_of n k) ∙ none_left obtained_sum _)
+sum_same n m s (suc o) k l h d hn r =
+    sum_of n m n (m *ℤ pos (2 ^ (k - l))) s (suc o) (suc o) k l 1 1 (suc o) k (omega arith) (omega arith) (omega arith) (omega arith) h d (self n k) (ap (λ p. m *ℤ pos p) (one_left (2 ^ (k - l)))) r.value hn r.raised_fits r.fits
   where
     one_right : (n : ℤ) → n *ℤ pos 1 ≡ n
     one_right n = omega (arith, ints)
 
+    one_left : (p : ℕ) → p ≡ 1 * p
+    one_left p = omega arith
+
     self : (n : ℤ) (k : ℕ) → n ≡ n *ℤ pos (1 * 2 ^ (k - k))
     self n k = let e : k - k ≡ 0 = omega arith in rw e (sym (one_right n))
+
+-- ---- sums by a look at high halves
+
+-- a number whose high half has at most 62 - t bits
+pub small_raised : (n t : ℕ) → t ≤ 62 → n / 2 ^ 64 / 2 ^ (62 - t) ≡ 0 → n * 2 ^ t < 2 ^ 126
+small_raised n t h z =
+    let d = 2 ^ 64 * 2 ^ (62 - t) in
+    let e : n / d ≡ 0 = sym (div-div-eq-div-mul n (2 ^ 64) (2 ^ (62 - t))) ∙ z in
+    let some : 0 < d = both_positive (2 ^ 64) (2 ^ (62 - t)) (omega arith) (pow_pos (62 - t)) in
+    let l = mul-lt-mul_of_pos_right (subst (λ q. n < q * d + d) e (lt-div-mul-add some)) (pow_pos t) in
+    let s : 2 ^ (62 - t) * 2 ^ t ≡ 2 ^ 62 = sym (pow-add 2 (62 - t) t) ∙ ap (λ k. 2 ^ k) (let b : 62 - t + t ≡ 62 = omega arith in b) in
+    omega arith
+
+pub sum_fits : (a b : ℤ) → unsigned_abs a < 2 ^ 126 → unsigned_abs b < 2 ^ 126 → unsigned_abs (a +ℤ b) < 2 ^ 127
+sum_fits a b p q = omega (arith, ints)
 
 pub one_power : (k : ℕ) → k < 127 → 1 * 2 ^ k < 2 ^ 127
 one_power k h = let l = pow_below k 127 h in omega arith
 
 -- ---- words
-
-pub whole_of : (q : ℕ) → fraction_of (pos q) 1 0 ≡ Some (whole q)
-unfolding whole fraction_of
-whole_of q = refl
 
 pub word_fits : (z : ℤ) → FitsSigned w64 z → unsigned_abs z ≤ 2 ^ 63
 word_fits (pos n) f = let below : n < 2 ^ 63 = f.sfits in omega arith
@@ -162,17 +182,6 @@ words_fit a b f g =
     let l = mul-le (unsigned_abs a) (unsigned_abs b) (2 ^ 63) (2 ^ 63) (word_fits a f) (word_fits b g) in
     omega arith
 
--- n/d, and n over the odd part of d and its twos
-pub without_twos : (n : ℤ) (o k d : ℕ) → o * 2 ^ k ≡ d → fraction_of n o k ≡ fraction_of n d 0
-without_twos n zero k d e = none_of n k ∙ sym (ap (λ t. fraction_of n t 0) (sym e ∙ zero-times (2 ^ k)) ∙ none_of n 0)
-  where
-    zero-times : (p : ℕ) → 0 * p ≡ 0
-    zero-times p = omega arith
-without_twos n (suc o) k d e = some_of n (suc o) k (omega arith) ∙ ap (λ t. Some (n /ℚ t)) (e ∙ one d) ∙ sym (some_of n d 0 (subst (λ t. 0 < t) e (positive-product (suc o) (2 ^ k) (omega arith) (pow_pos k))))
-  where
-    one : (d : ℕ) → d ≡ d * 2 ^ 0
-    one d = omega arith
-
-pub some_fraction : (n : ℤ) (d : ℕ) → not (eqb d 0) ≡ is_some (fraction_of n d 0)
-some_fraction n zero = sym (ap is_some (none_of n 0))
-some_fraction n (suc d) = let e : not (eqb (suc d) 0) ≡ true = grind arith in e ∙ sym (ap is_some (some_of n (suc d) 0 (omega arith)))
+pub word_product : (n m : ℤ) (o p k l : ℕ) → 0 < o → 0 < p → unsigned_abs (n *ℤ m) < 2 ^ 127 → (o * p) * 2 ^ (k + l) < 2 ^ 127
+    → fraction_of (n *ℤ m) (o * p) (k + l) ≡ Some (n /ℚ (o * 2 ^ k)) ⊛ Some (m /ℚ (p * 2 ^ l))
+word_product n m o p k l a b h d = product_of n m o p k l h d ∙ ap₂ ◌⊛◌ (some_of n o k a) (some_of m p l b)

@@ -1,5 +1,4 @@
 pub mod Certified
 pub mod Kept
-pub mod Numbers
 pub mod Sizes
 pub mod Words

@@ -1,8 +1,11 @@
 -- A fraction of words.
-use Rattle.std.specs.Prelude.{Option}
-use Rattle.airy_math.specs.Rational.{ℚ}
-use Rattle.running_sum.specs.Kept.{fraction_of}
+use Rattle.std.specs.Prelude.{◌*◌, ◌<◌, ◌^◌}
+use Rattle.airy_math.specs.Rational.{ℚ, ◌/ℚ◌}
 use Rattle.running_sum.specs.declared.words.Word.TheInside.{Inside}
 
-abbrev pub the_word : Inside → Option ℚ
-the_word a = fraction_of a.num a.odd a.twos
+pub record AreWords (a : Inside) : Type 0 where
+  pub odd_above : 0 < a.odd
+  pub twos_fit : a.twos < 64
+
+abbrev pub the_word : Inside → ℚ
+the_word a = a.num /ℚ (a.odd * 2 ^ a.twos)

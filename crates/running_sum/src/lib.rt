@@ -6,14 +6,14 @@
 
 ghost use Rattle.running_sum.specs.Certified.{CertifiedLaw};
 
-mod number;
 mod sizes;
 mod terms;
 mod unreduced;
 mod words;
 
-pub use number::Number;
+pub use terms::{long_joined, long_once, long_twice, word_joined, word_once, word_twice};
 pub use unreduced::Unreduced;
+pub use words::Word;
 
 /// A law: multiples of one fraction 1/D are added, in any order, where D and the sum of their sizes are in range, and fractions
 /// are multiplied where the products of their numbers are.

@@ -1,5 +1,5 @@
 ghost use Rattle.std.specs.Prelude.{◌≡◌, ◌<◌, ◌≤◌, ◌^◌, ◌*◌, ◌*ℤ◌, ◌+ℤ◌, pos, unsigned_abs, IfSome, true};
-ghost use Rattle.running_sum.specs.Sizes.{IsProduct, IsSum, IsCommon};
+ghost use Rattle.running_sum.specs.Sizes.{IsProduct, IsSum, IsRaisedSum, IsCommon};
 
 use frac128::Frac;
 
@@ -54,6 +54,26 @@ pub(crate) fn raised(a: i128, k: u128, twos: u32) -> Option<i128>
         return None;
     }
     Some(a * (k << twos) as i128)
+}
+
+/// Whether n 2^twos is seen to be below 2^126 in size, by a look at the high half of n.
+#[inline(always)]
+fn is_small(n: i128, twos: u32) -> bool
+    requires { twos ≤ 62 }
+    ensures { result ≡ true → unsigned_abs n * 2 ^ twos < 2 ^ 126 }
+{
+    (n.unsigned_abs() >> 64) as u64 >> (62 - twos) == 0
+}
+
+/// a + b 2^twos, where both are seen to be below 2^126 in size.
+#[inline(always)]
+pub(crate) fn raised_sum(a: i128, b: i128, twos: u32) -> Option<i128>
+    ensures { IfSome result (IsRaisedSum a b twos) }
+{
+    if twos > 62 || !is_small(a, 0) || !is_small(b, twos) {
+        return None;
+    }
+    Some(a + b * (1u128 << twos) as i128)
 }
 
 /// The sum, where it is in range.

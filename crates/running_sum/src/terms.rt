@@ -1,110 +1,70 @@
 ghost use Rattle.std.specs.Prelude.{◌≡◌, ◌<◌, ◌^◌, Some, IfSome};
 ghost use Rattle.airy_math.specs.Rational.{whole};
-ghost use Rattle.airy_math.specs.Obtained.{both_obtained, obtained_sum, ◌⊛◌};
-ghost use Rattle.running_sum.specs.Numbers.{number_of};
+ghost use Rattle.airy_math.specs.Obtained.{◌⊛◌};
 
-use crate::number::Number;
 use crate::unreduced::Unreduced;
 use crate::words::Word;
 use frac128::Frac;
 
 /// (m v) x by words.
 #[inline(always)]
-fn word_once(times: u8, v: &Frac, x: &Number) -> Option<Unreduced>
-    ensures { IfSome result (λ t. t ≡ Some (whole times) ⊛ Some v.now ⊛ number_of x.now) }
+pub fn word_once(times: u8, v: Frac, x: &Word) -> Option<Unreduced>
+    ensures { IfSome result (λ t. t ≡ Some (whole times) ⊛ Some v ⊛ Some x.now) }
 {
-    let weight = Word::whole(u64::from(times)).times(&Word::of(v)?)?;
-    weight.product(&x.word()?)
+    Word::whole(u64::from(times))
+        .times(&Word::of(v)?)?
+        .product(x)
 }
 
 /// (m v) x
-#[inline(never)]
 #[tactic(auto, unfolding(airy_math::specs::Rational::whole))]
-fn long_once(times: u8, v: Frac, x: Number) -> Unreduced
-    ensures { result ≡ Some (whole times) ⊛ Some v ⊛ number_of x }
+pub fn long_once(times: u8, v: Frac, x: &Unreduced) -> Unreduced
+    ensures { result ≡ Some (whole times) ⊛ Some v ⊛ x.now }
 {
     Unreduced::of(Frac::whole(i64::from(times)))
         .mul(&Unreduced::of(v))
-        .mul(&x.unreduced())
+        .mul(x)
 }
 
 /// w x by words.
 #[inline(always)]
-fn word_joined(weight: &Option<Frac>, x: &Number) -> Option<Unreduced>
-    ensures { IfSome result (λ t. t ≡ weight.now ⊛ number_of x.now) }
+pub fn word_joined(weight: &Option<Frac>, x: &Word) -> Option<Unreduced>
+    ensures { IfSome result (λ t. t ≡ weight.now ⊛ Some x.now) }
 {
     let Some(weight) = weight else {
         return None;
     };
-    Word::of(weight)?.product(&x.word()?)
+    Word::of(*weight)?.product(x)
 }
 
 /// w x, if w is obtained
-#[inline(never)]
-fn long_joined(weight: Option<Frac>, x: Number) -> Unreduced
-    ensures { result ≡ weight ⊛ number_of x }
+pub fn long_joined(weight: Option<Frac>, x: &Unreduced) -> Unreduced
+    ensures { result ≡ weight ⊛ x.now }
 {
-    Unreduced::from(weight).mul(&x.unreduced())
+    Unreduced::from(weight).mul(x)
 }
 
 /// ((w q) x) y by words.
 #[inline(always)]
-fn word_twice(weight: &Option<Frac>, ways: u64, x: &Number, y: &Number) -> Option<Unreduced>
+pub fn word_twice(weight: &Option<Frac>, ways: u64, x: &Word, y: &Word) -> Option<Unreduced>
     requires { ways < 2 ^ 63 }
-    ensures { IfSome result (λ t. t ≡ weight.now ⊛ Some (whole ways) ⊛ number_of x.now ⊛ number_of y.now) }
+    ensures { IfSome result (λ t. t ≡ weight.now ⊛ Some (whole ways) ⊛ Some x.now ⊛ Some y.now) }
 {
     let Some(weight) = weight else {
         return None;
     };
-    let weight = Word::of(weight)?.times(&Word::whole(ways))?;
-    weight.times(&x.word()?)?.product(&y.word()?)
+    let weight = Word::of(*weight)?.times(&Word::whole(ways))?;
+    weight.times(x)?.product(y)
 }
 
 /// ((w q) x) y, if w is obtained
-#[inline(never)]
 #[tactic(auto, unfolding(airy_math::specs::Rational::whole))]
-fn long_twice(weight: Option<Frac>, ways: u64, x: Number, y: Number) -> Unreduced
+pub fn long_twice(weight: Option<Frac>, ways: u64, x: &Unreduced, y: &Unreduced) -> Unreduced
     requires { ways < 2 ^ 63 }
-    ensures { result ≡ weight ⊛ Some (whole ways) ⊛ number_of x ⊛ number_of y }
+    ensures { result ≡ weight ⊛ Some (whole ways) ⊛ x.now ⊛ y.now }
 {
     Unreduced::from(weight)
         .mul(&Unreduced::of(Frac::whole(ways as i64)))
-        .mul(&x.unreduced())
-        .mul(&y.unreduced())
-}
-
-impl Unreduced {
-    /// Adds (m v) x, if the term and the sum are obtained.
-    #[inline(always)]
-    pub fn add_once(&mut self, times: u8, v: Frac, x: Number)
-        ensures { self.new ≡ both_obtained obtained_sum self.old (Some (whole times) ⊛ Some v ⊛ number_of x) }
-    {
-        match word_once(times, &v, &x) {
-            Some(term) => self.add(&term),
-            None => self.add(&long_once(times, v, x)),
-        }
-    }
-
-    /// Adds w x, if w, the term and the sum are obtained.
-    #[inline(always)]
-    pub fn add_joined(&mut self, weight: Option<Frac>, x: Number)
-        ensures { self.new ≡ both_obtained obtained_sum self.old (weight ⊛ number_of x) }
-    {
-        match word_joined(&weight, &x) {
-            Some(term) => self.add(&term),
-            None => self.add(&long_joined(weight, x)),
-        }
-    }
-
-    /// Adds ((w q) x) y, if w, the term and the sum are obtained.
-    #[inline(always)]
-    pub fn add_twice(&mut self, weight: Option<Frac>, ways: u64, x: Number, y: Number)
-        requires { ways < 2 ^ 63 }
-        ensures { self.new ≡ both_obtained obtained_sum self.old (weight ⊛ Some (whole ways) ⊛ number_of x ⊛ number_of y) }
-    {
-        match word_twice(&weight, ways, &x, &y) {
-            Some(term) => self.add(&term),
-            None => self.add(&long_twice(weight, ways, x, y)),
-        }
-    }
+        .mul(x)
+        .mul(y)
 }

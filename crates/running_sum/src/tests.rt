@@ -1,4 +1,6 @@
-use crate::{Number, Unreduced};
+use crate::{
+    Unreduced, Word, long_joined, long_once, long_twice, word_joined, word_once, word_twice,
+};
 use frac128::Frac;
 use std::process::Abort;
 use std::test::Fail;
@@ -9,8 +11,12 @@ fn fraction(num: i128, den: i128) -> Result<Frac, Fail> {
     Ok(Frac::new(num, den).map_err(|_| "no fraction")?)
 }
 
-fn number(num: i128, den: i128) -> Result<Number, Fail> {
-    Ok(Number::of(fraction(num, den)?))
+fn unreduced(num: i128, den: i128) -> Result<Unreduced, Fail> {
+    Ok(Unreduced::of(fraction(num, den)?))
+}
+
+fn word(num: i128, den: i128) -> Result<Word, Fail> {
+    Ok(Word::of(fraction(num, den)?).ok_or("no words")?)
 }
 
 /// The sum of two, beside the sum in lowest terms.
@@ -42,52 +48,68 @@ fn steps_out_of_range(rt: HostRuntime) -> Result<(), Fail> {
     sum.add(&Unreduced::of(Frac::whole(1)));
     sum.add(&Unreduced::of(Frac::whole(-2)));
     assert_eq!(rt; sum.value(), None);
-    let mut sum = Unreduced::of(Frac::whole(0));
-    sum.add_twice(
-        Some(fraction(GREATEST, 1)?),
-        2,
-        Number::of(Frac::whole(0)),
-        Number::of(Frac::whole(1)),
-    );
-    assert_eq!(rt; sum.value(), None);
+    let (zero, one) = (unreduced(0, 1)?, unreduced(1, 1)?);
+    let term = long_twice(Some(fraction(GREATEST, 1)?), 2, &zero, &one);
+    assert_eq!(rt; term.value(), None);
+    Ok(())
+}
+
+/// Whether a term by words is there, with this value.
+fn is_term(term: Option<Unreduced>, value: Frac) -> bool {
+    match term {
+        Some(term) => term.value() == Some(value),
+        None => false,
+    }
+}
+
+#[test]
+fn terms_of_words(rt: HostRuntime) -> Result<(), Fail> {
+    let (x, y) = (word(5, 8)?, word(-7, 5)?);
+    let half = fraction(1, 2)?;
+    assert!(rt; is_term(word_once(3, half, &x), fraction(15, 16)?));
+    assert!(rt; is_term(word_joined(&Some(half), &x), fraction(5, 16)?));
+    assert!(rt; is_term(word_twice(&Some(half), 6, &x, &y), fraction(-21, 8)?));
+    assert!(rt; word_twice(&None, 6, &x, &y).is_none());
     Ok(())
 }
 
 #[test]
-fn terms(rt: HostRuntime) -> Result<(), Fail> {
+fn terms_of_any_numbers(rt: HostRuntime) -> Result<(), Fail> {
+    let long = unreduced(1 << 70, 3)?;
     let mut sum = Unreduced::of(Frac::whole(0));
-    sum.add_once(3, fraction(1, 4)?, number(2, 9)?);
-    sum.add_joined(Some(fraction(1, 1 << 70)?), number(1 << 70, 3)?);
-    sum.add_twice(Some(fraction(1, 2)?), 6, number(5, 8)?, number(-7, 5)?);
+    sum.add(&long_once(3, fraction(1, 4)?, &unreduced(2, 9)?));
+    sum.add(&long_joined(Some(fraction(1, 1 << 70)?), &long));
+    let (x, y) = (unreduced(5, 8)?, unreduced(-7, 5)?);
+    sum.add(&long_twice(Some(fraction(1, 2)?), 6, &x, &y));
     assert_eq!(rt; sum.value(), Some(fraction(-17, 8)?));
-    sum.add_joined(None, Number::of(Frac::whole(0)));
+    sum.add(&long_joined(None, &x));
     assert_eq!(rt; sum.value(), None);
     Ok(())
 }
 
-/// Whether a fraction is got back from the number that is made of it, and from that number to be added.
+/// Whether a fraction is got back from the words that it is taken apart into, and from these to be added.
 fn is_kept(v: Frac) -> bool {
-    Number::of(v).is_fraction()
-        && Number::of(v).value() == Some(v)
-        && Number::of(v).unreduced().value() == Some(v)
+    match Word::of(v) {
+        Some(word) => word.value() == v && word.unreduced().value() == Some(v),
+        None => false,
+    }
 }
 
 #[test]
-fn numbers(rt: HostRuntime) -> Result<(), Fail> {
+fn words(rt: HostRuntime) -> Result<(), Fail> {
     let odd = (1 << 63) - 1;
     let rows = [
         (0, 1),
         (-3, 8),
         (odd, 1 << 63),
-        (-odd - 1, 3),
         (5, (1 << 64) - 1),
-        (7, 1 << 64),
-        (GREATEST, GREATEST - 1),
+        (7, 3 << 63),
     ];
     for (num, den) in rows {
         assert!(rt; is_kept(fraction(num, den)?));
     }
-    assert!(rt; !Number::Short { num: 1, den: 0 }.is_fraction());
-    assert_eq!(rt; Number::Short { num: 1, den: 0 }.value(), None);
+    for (num, den) in [(-odd - 1, 3), (7, 1 << 64), (GREATEST, GREATEST - 1)] {
+        assert!(rt; Word::of(fraction(num, den)?).is_none());
+    }
     Ok(())
 }

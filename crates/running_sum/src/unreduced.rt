@@ -2,7 +2,7 @@ ghost use Rattle.std.specs.Prelude.{◌≡◌, Some, None, IfSome};
 ghost use Rattle.airy_math.specs.Rational.{ℚ};
 ghost use Rattle.airy_math.specs.Obtained.{both_obtained, obtained_sum, ◌⊛◌};
 
-use crate::sizes::{bits, common, raised, short_product, short_sum};
+use crate::sizes::{bits, common, raised, raised_sum, short_product, short_sum};
 use frac128::Frac;
 use std::marker::Model;
 
@@ -107,14 +107,20 @@ impl Unreduced {
         ensures { self.new ≡ both_obtained obtained_sum self.old o.now }
     {
         if self.odd == o.odd && o.twos <= self.twos {
-            if let Some(part) = raised(o.num, 1, self.twos - o.twos) {
-                if let Some(num) = short_sum(self.num, part) {
-                    self.num = num;
-                    return;
-                }
+            if let Some(num) = raised_sum(self.num, o.num, self.twos - o.twos) {
+                self.num = num;
+                return;
             }
         }
-        *self = long_sum(self, &o.moved());
+        self.add_long(&o.moved());
+    }
+
+    /// The same by a call of its own, which the common sum does without.
+    #[inline(never)]
+    fn add_long(&mut self, o: &Unreduced)
+        ensures { self.new ≡ both_obtained obtained_sum self.old o.now }
+    {
+        *self = long_sum(self, o);
     }
 }
 
@@ -170,7 +176,6 @@ fn certified_sum(a: &Unreduced, b: &Unreduced) -> Option<Unreduced>
 }
 
 /// The sum of any two.
-#[inline(never)]
 #[tactic(auto, unfolding(airy_math::specs::Obtained::both_obtained))]
 fn long_sum(a: &Unreduced, b: &Unreduced) -> Unreduced
     ensures { result ≡ both_obtained obtained_sum a.now b.now }

@@ -1,42 +1,39 @@
-ghost use Rattle.std.specs.Prelude.{◌≡◌, ◌<◌, ◌^◌, Some, None, IfSome};
-ghost use Rattle.airy_math.specs.Rational.{ℚ, whole};
+ghost use Rattle.std.specs.Prelude.{◌≡◌, ◌<◌, ◌^◌, Some, IfSome};
+ghost use Rattle.airy_math.specs.Rational.{ℚ, ◌/ℚ◌, whole};
 ghost use Rattle.airy_math.specs.Obtained.{◌⊛◌};
-ghost use Rattle.running_sum.specs.Kept.{fraction_of};
 
 use crate::sizes::{is_short, word};
 use crate::unreduced::Unreduced;
 use frac128::Frac;
 use std::marker::Model;
 
-/// A fraction of words that need not be in lowest terms: `num` over `odd` 2^`twos`.
-#[derive(Drop)]
-pub(crate) struct Word {
+/// A fraction of words as a factor of products, taken apart: `num` over `odd` 2^`twos`. It need not be in lowest terms.
+#[derive(Clone, Drop)]
+pub struct Word {
     num: i64,
     odd: u64,
     twos: u32,
 }
 
 impl Model for Word {
-    ghost use Rattle.std.specs.Prelude.{Option, ◌<◌};
-    ghost use Rattle.std.specs.Coded.{coded_option};
     ghost use Rattle.airy_math.specs.Rational.{ℚ, rational_code};
 
-    ghost Value = { Option ℚ };
+    ghost Value = { ℚ };
 
-    ghost coded = { coded_option rational_code };
+    ghost coded = { rational_code };
 
-    ghost use Rattle.running_sum.specs.Words.{the_word};
+    ghost use Rattle.running_sum.specs.Words.{AreWords, the_word};
 
     ghost view = { the_word };
 
-    ghost invariant = { λ a. a.twos < 64 };
+    ghost invariant = { AreWords };
 }
 
 impl Word {
     /// A fraction whose numbers are words.
     #[inline(always)]
-    pub(crate) fn of(v: &Frac) -> Option<Word>
-        ensures { IfSome result (λ w. w ≡ Some v.now) }
+    pub fn of(v: Frac) -> Option<Word>
+        ensures { IfSome result (λ w. w ≡ v) }
     {
         v.range_fact();
         let (num, den) = v.parts();
@@ -44,7 +41,7 @@ impl Word {
         let den = den as u128;
         if den >> 64 == 0 {
             // a shift of one word is faster than one of two
-            return Word::over(num, den as u64);
+            return Some(Word::over(num, den as u64));
         }
         let twos = den.trailing_zeros();
         let odd = den >> twos;
@@ -58,31 +55,17 @@ impl Word {
         })
     }
 
-    /// num/den, and none exactly where den is 0.
+    /// num/den
     #[inline(always)]
-    pub(crate) fn over(num: i64, den: u64) -> Option<Word>
-        ensures whole { IfSome result (λ w. w ≡ fraction_of num den 0) }
-        ensures none { result ≡ None → den ≡ 0 }
+    fn over(num: i64, den: u64) -> Word
+        requires { 0 < den }
+        ensures { result ≡ num /ℚ den }
     {
         let twos = den.trailing_zeros();
-        if twos > 63 {
-            return None;
-        }
-        Some(Word {
+        Word {
             num,
             odd: den >> twos,
             twos,
-        })
-    }
-
-    /// The same to be added or multiplied by any other.
-    pub(crate) fn unreduced(&self) -> Unreduced
-        ensures { result ≡ self.now }
-    {
-        Unreduced {
-            num: i128::from(self.num),
-            odd: u128::from(self.odd),
-            twos: self.twos,
         }
     }
 
@@ -90,7 +73,7 @@ impl Word {
     #[inline(always)]
     pub(crate) fn whole(n: u64) -> Word
         requires { n < 2 ^ 63 }
-        ensures { result ≡ Some (whole n) }
+        ensures { result ≡ whole n }
     {
         Word {
             num: n as i64,
@@ -99,10 +82,40 @@ impl Word {
         }
     }
 
+    /// The same in a place of its own.
+    #[inline(always)]
+    pub fn moved(&self) -> Word
+        ensures { result ≡ self.now }
+    {
+        Word {
+            num: self.num,
+            odd: self.odd,
+            twos: self.twos,
+        }
+    }
+
+    /// The same to be added or multiplied by any other.
+    pub fn unreduced(&self) -> Unreduced
+        ensures { result ≡ Some self.now }
+    {
+        Unreduced {
+            num: i128::from(self.num),
+            odd: u128::from(self.odd),
+            twos: self.twos,
+        }
+    }
+
+    /// The fraction in lowest terms.
+    pub fn value(&self) -> Frac
+        ensures { result ≡ self.now }
+    {
+        self.unreduced().value().unwrap()
+    }
+
     /// The product, where it is one of words.
     #[inline(always)]
     pub(crate) fn times(&self, o: &Word) -> Option<Word>
-        ensures { IfSome result (λ p. p ≡ self.now ⊛ o.now) }
+        ensures { IfSome result (λ p. Some p ≡ Some self.now ⊛ Some o.now) }
     {
         let twos = self.twos + o.twos;
         if twos > 63 {
@@ -118,7 +131,7 @@ impl Word {
     /// The product, where its denominator is in range.
     #[inline(always)]
     pub(crate) fn product(&self, o: &Word) -> Option<Unreduced>
-        ensures { IfSome result (λ p. p ≡ self.now ⊛ o.now) }
+        ensures { IfSome result (λ p. p ≡ Some self.now ⊛ Some o.now) }
     {
         let odd = self.odd as u128 * o.odd as u128;
         let twos = self.twos + o.twos;

@@ -20,7 +20,7 @@ use Rattle.series_law.specs.Amplitudes.{HoldsOutcomes, IsAmplitude, shown_at}
 
 -- ---- what stands there
 
-shown_value : (c : Option Outcome) (v : ℚ) → value_of_cell c ≡ Some v → c ≡ Some (Value v)
+pub shown_value : (c : Option Outcome) (v : ℚ) → value_of_cell c ≡ Some v → c ≡ Some (Value v)
 unfolding value_of_cell value_of
 shown_value None v e = cc
 shown_value (Some (Value w)) v e = cc

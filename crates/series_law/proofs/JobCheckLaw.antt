@@ -1,13 +1,12 @@
 -- What the check of a job's table says of the job's solutions.
-use Rattle.std.proofs.Common.{ℕ, suc, ◌+◌, ◌-◌, ◌≡◌, refl, sym, ap, ◌∙◌, Bool, true, false, ◌&&◌, arith, leb, eqb}
+use Rattle.std.proofs.Common.{ℕ, suc, ◌≡◌, sym, ◌∙◌}
 use Rattle.airy_math.specs.Rational.{ℚ}
-use Rattle.airy_math.specs.RationalLaws.{0ℚ, 1ℚ}
+use Rattle.airy_math.specs.RationalLaws.{0ℚ}
 use Rattle.airy_math.specs.Keys.{Key}
 use Rattle.airy_math.specs.Series.{Series}
 use Rattle.airy_math.specs.Cuts.{letter_of, power}
-use Rattle.airy_math.specs.Sums.{when}
 use Rattle.airy_math.specs.Tensors.{Tensors, IsSymmetric, IsGraded}
-use Rattle.airy_math.specs.Families.{top_wk, top_bgw, wp_cut, wp_number}
+use Rattle.airy_math.specs.Families.{top_wk, top_bgw}
 use Rattle.airy_math.specs.Jobs.{Structure, Wk, Bgw, Wp, Bulk, Text, Lettered, IsSolutionOf, IsSound, letter_value, planned_tensors, tensors_at}
 use Rattle.airy_math.proofs.FamilyLaw.{wk_graded, wk_symmetric, bgw_graded, bgw_symmetric, wp_cut_graded, wp_cut_symmetric}
 use Rattle.airy_math.proofs.FamilyPlans.{le_self}

@@ -1,31 +1,24 @@
 -- The five expressions of widened tensors are those of the tensors, times the letter's power, and so are their relations.
-use Rattle.std.proofs.Common.{ℕ, zero, suc, ◌+◌, ◌<◌, ◌≤◌, ◌≡◌, refl, sym, ap, ap₂, ◌∙◌, List, [], ◌∷◌, ◌⊎◌, inl, inr, add_comm, arith, ℤ, pos, ◌+ℤ◌, ◌*ℤ◌, ◌-ℤ◌}
+use Rattle.std.proofs.Common.{ℕ, zero, suc, ◌+◌, ◌<◌, ◌≤◌, ◌≡◌, refl, sym, ap, ap₂, ◌∙◌, List, [], ◌∷◌, inl, inr, add_comm, arith, ℤ, pos, ◌+ℤ◌, ◌*ℤ◌, ◌-ℤ◌}
 use Rattle.std.proofs.lemmas.Int.{ints}
-use Rattle.std.proofs.lemmas.Bool.{cases_lt}
 use Rattle.airy_math.specs.Rational.{ℚ, ◌+ℚ◌, ◌*ℚ◌}
 use Rattle.airy_math.specs.RationalLaws.{0ℚ, half, 0ℚ_idl, 0ℚ-*ℚ, *ℚ_distrib, *ℚ_left_comm, products_q}
 use Rattle.airy_math.specs.Sums.{sum_over, below}
 use Rattle.airy_math.specs.declared.Shape.{Shape}
-use Rattle.airy_math.specs.declared.Shape.TheVariants.{All, Exact, AtMost}
 use Rattle.airy_math.specs.Shapes.{Keeps, per_g, per_n}
 use Rattle.airy_math.specs.Tensors.{Tensors, IsGraded}
 use Rattle.airy_math.specs.Relations.{rel_AA, rel_BA, rel_BB, rel_BC, rel_D}
-use Rattle.airy_math.specs.Cuts.{outer, if_none, power, natural, room, letter_a, letter_b, letter_c, letter_d}
+use Rattle.airy_math.specs.Cuts.{outer, if_none, power, room, letter_a, letter_b, letter_c, letter_d}
 use Rattle.airy_math.specs.Families.{widened}
 use Rattle.airy_math.proofs.SumLemmas.{sum-cong, sum-scale, *ℚ-0ℚ}
 use Rattle.airy_math.proofs.KeyLemmas.{AllBelow}
 use Rattle.airy_math.proofs.GradedLaw.{Or, times_or}
-use Rattle.airy_math.proofs.CompareLemmas.{past, past-above, if_none-plus, sum-inside}
-use Rattle.airy_math.proofs.CutLaw.{power-plus, natural_is, if_none-zero}
+use Rattle.airy_math.proofs.CompareLemmas.{past, if_none-plus, sum-inside}
+use Rattle.airy_math.proofs.CutLaw.{power-plus, if_none-zero, room-add, if_none-move}
 use Rattle.series_law.specs.Letters.{exponent_BA, exponent_BB, exponent_BC, exponent_D, AreByPower, WidenedExpressionsLaw, WidenedRelationsLaw}
+use Rattle.airy_math.proofs.ExactLaw.{outer-below}
 
 -- ---- brackets
-
--- a bracket at a factor stands as well at the other, and at the product
-bracket_left : (n : ℕ) (w x : ℚ) → w *ℚ if_none n x ≡ if_none n w *ℚ x
-unfolding if_none
-bracket_left zero w x = refl
-bracket_left (suc n) w x = *ℚ-0ℚ w ∙ sym (0ℚ-*ℚ x)
 
 bracket_out : (n : ℕ) (w x : ℚ) → if_none n w *ℚ x ≡ if_none n (w *ℚ x)
 unfolding if_none
@@ -54,15 +47,6 @@ bracket_three (suc t) w x y z = ap (λ u. u +ℚ 0ℚ) (0ℚ_idl 0ℚ) ∙ 0ℚ_
 
 -- ---- products of two entries
 
-room_adds : (s : Shape) (x x' y y' X Y : ℤ) → Keeps s x y → Keeps s x' y' → X ≡ x +ℤ x' → Y ≡ y +ℤ y' → room s X Y ≡ room s x y + room s x' y'
-unfolding Keeps room
-room_adds All x x' y y' X Y h k p q = refl
-room_adds (Exact l) x x' y y' X Y h k p q = refl
-room_adds (AtMost l) x x' y y' X Y h k p q = sums (natural (Y -ℤ X)) _ _ (natural_is X Y (omega (arith, ints))) (natural_is x y h) (natural_is x' y' k)
-  where
-    sums : (a b c : ℕ) → pos a ≡ Y -ℤ X → pos b ≡ y -ℤ x → pos c ≡ y' -ℤ x' → a ≡ b + c
-    sums a b c e f g = omega (arith, ints)
-
 -- an entry, how many of its indices are beyond T's, and the two numbers that the shape compares
 record Entry (s : Shape) : Type 0 where
   value : ℚ
@@ -89,9 +73,9 @@ module _ (T : Tensors) (gr : IsGraded T) (m : ℕ) (v : ℚ) (wide : T.dim ≤ m
   product : (f g : Entry T.shape) (n t : ℕ) (X Y : ℤ) → AddUp f g n t X Y → read f *ℚ read g ≡ if_none t (weight n X Y *ℚ (f.value *ℚ g.value))
   unfolding read weight
   product f g n t X Y h =
-      ap₂ ◌*ℚ◌ (bracket_left f.beyond (power v e) f.value) (bracket_left g.beyond (power v e') g.value) ∙ crossed _ f.value _ g.value
+      ap₂ ◌*ℚ◌ (if_none-move f.beyond (power v e) f.value) (if_none-move g.beyond (power v e') g.value) ∙ crossed _ f.value _ g.value
       ∙ ap (λ u. u *ℚ z) (bracket_twice f.beyond g.beyond n t (power v e) (power v e') h.beyond ∙ ap (λ u. if_none t (if_none n u)) (sym (power-plus v e e')))
-      ∙ bracket_out t _ z ∙ ap (if_none t) (by (times_or f.value g.value _ _ (room T.shape X Y ≡ e + e') f.keeps g.keeps (λ k k'. room_adds T.shape f.x g.x f.y g.y X Y k k' h.x h.y)))
+      ∙ bracket_out t _ z ∙ ap (if_none t) (by (times_or f.value g.value _ _ (room T.shape X Y ≡ e + e') f.keeps g.keeps (λ k k'. room-add T.shape f.x g.x f.y g.y X Y k k' h.x h.y)))
     where
       e : ℕ
       e = room T.shape f.x f.y
@@ -123,7 +107,7 @@ module _ (T : Tensors) (gr : IsGraded T) (m : ℕ) (v : ℚ) (wide : T.dim ≤ m
       sum_inside (weight n X Y) _ _ (λ a.
       ap₂ ◌+ℚ◌ (ap₂ ◌+ℚ◌ (product (f a) (f' a) n (past T.dim a) X Y (p a)) (product (g a) (g' a) n (past T.dim a) X Y (q a))) (product (h a) (h' a) n (past T.dim a) X Y (r a))
       ∙ bracket_three (past T.dim a) (weight n X Y) _ _ _)
-      ∙ sym (bracket_left n (power v (room T.shape X Y)) _)
+      ∙ sym (if_none-move n (power v (room T.shape X Y)) _)
 
   -- ---- the entries of T
 
@@ -183,7 +167,7 @@ module _ (T : Tensors) (gr : IsGraded T) (m : ℕ) (v : ℚ) (wide : T.dim ≤ m
           ∙ if_none-plus (past T.dim b) (past T.dim a) _ ∙ ap (if_none (past T.dim b)) (sym (bracket_out (past T.dim a) w _)))
           ∙ bracket_out (past T.dim a) w _))
           ∙ half_in w _ (sum_over (below T.dim) (λ a. sum_over (below T.dim) (λ b. T.C i a b *ℚ T.A j a b)))
-          ∙ sym (bracket_left n (power v (room T.shape X Y)) _)
+          ∙ sym (if_none-move n (power v (room T.shape X Y)) _)
         where
           w : ℚ
           w = weight n X Y
@@ -193,15 +177,6 @@ widened_expressions T gr m v wide = by_power T gr m v wide
 
 -- ---- the relations
 
-inside : (m : ℕ) (xs : List ℕ) → outer m xs ≡ 0 → AllBelow m xs
-unfolding outer past
-inside m [] h = tt
-inside m (x ∷ xs) h = (by (cases_lt x m), inside m xs (omega arith))
-  where
-    by : (x < m) ⊎ (m ≤ x) → x < m
-    by (inl p) = p
-    by (inr p) = absurd (omega (arith, past-above m x p))
-
 -- an expression at a place, and at the place with i and j exchanged
 exchanged : (m i j : ℕ) (xs : List ℕ) (w : ℕ → ℚ) (x x' : ℚ) → (AllBelow m (i ∷ j ∷ xs) → x ≡ x')
     → w (i + j) *ℚ if_none (outer m (i ∷ j ∷ xs)) x ≡ w (j + i) *ℚ if_none (outer m (j ∷ i ∷ xs)) x'
@@ -209,7 +184,7 @@ unfolding if_none outer
 exchanged m i j xs w x x' h = ap₂ ◌*ℚ◌ (ap w (add_comm i j)) (by (outer m (i ∷ j ∷ xs)) refl ∙ ap (λ n. if_none n x') (swap i j xs))
   where
     by : (n : ℕ) → outer m (i ∷ j ∷ xs) ≡ n → if_none n x ≡ if_none n x'
-    by zero q = h (inside m (i ∷ j ∷ xs) q)
+    by zero q = h (outer-below m (i ∷ j ∷ xs) q)
     by (suc n) q = refl
 
     swap : (i j : ℕ) (xs : List ℕ) → outer m (i ∷ j ∷ xs) ≡ outer m (j ∷ i ∷ xs)

@@ -20,9 +20,8 @@ use Rattle.series_law.specs.Check.{Verdict, Solution, NotValue, Overflow, Orders
 unfoldable pub HaveValues : List Outcome → ℕ → Type 0
 HaveValues table r = (s : ℕ) → s < r → has_value (get_or table s Over) ≡ true
 
--- All that comes before the pivot i of the key passes: each rank has a Value, and each pivot above the least of an earlier key, and each
--- such
--- lesser pivot of this one, gives the key's Value.
+-- All that comes before the pivot i of the key passes: each rank has a Value, and each pivot above the least of an earlier key, and
+-- each such lesser pivot of this one, gives the key's Value.
 unfoldable pub PassesUpTo : Tensors → ℕ → List Outcome → Key → ℕ → Type 0
 PassesUpTo T X table key i = HaveValues table (length table) × AgreesUpTo T X (value_in (planned T X) table) above_least key i
 

@@ -39,6 +39,7 @@ use Rattle.amp_plan.proofs.SameLimits.{limit_same}
 use Rattle.run_reports.proofs.StatusLemmas.{IsPlain}
 use Rattle.run_reports.proofs.StoredLemmas.{same_limit}
 use Rattle.run_reports.proofs.HeadlineLemmas.{shown_value, TableShows}
+use Rattle.run_reports.proofs.StructureLemmas.{entries_self}
 
 module _ (s : Structure) (X Y : ℕ) (shows : TableShows s X Y) where
   abbrev T : Tensors
@@ -177,24 +178,13 @@ pub record SessionLaws : Type 0 where
 
 -- ---- of a text
 
-same_entries : (T : Tensors) → SameEntries T T
-same_entries T = record { dim = refl; shape = refl; A = λ i j k a b c. refl; B = λ i j k a b c. refl; C = λ i j k a b c. refl; D = λ i a. refl }
-
 pub text-planned : (t : Entries) (X : ℕ) → ArePlanned t (text_structure t) X
 unfolding text_structure planned_tensors has_letter
 text-planned t X = by t.letter refl
   where
     by : (b : Bool) → t.letter ≡ b → ArePlanned t (cond b (Lettered (looked_up t)) (Text (looked_up t))) X
-    by true e = record { entries = same_entries (looked_up t); letter = e }
-    by false e = record { entries = same_entries (looked_up t); letter = e }
-
-pub text-made : (t : Entries) (X : ℕ) → making_over (text_structure t) X ≡ None
-unfolding text_structure making_over
-text-made t X = by t.letter
-  where
-    by : (b : Bool) → making_over (cond b (Lettered (looked_up t)) (Text (looked_up t))) X ≡ None
-    by true = refl
-    by false = refl
+    by true e = record { entries = entries_self (looked_up t); letter = e }
+    by false e = record { entries = entries_self (looked_up t); letter = e }
 
 -- ---- the statuses
 

@@ -6,6 +6,7 @@ use Rattle.std.proofs.lemmas.Int.{to_z-of_z}
 use Rattle.std.proofs.lemmas.Bool.{eqb-true, eq-eqb}
 use Rattle.std.proofs.lemmas.Bool.Decides.{nat_tests}
 use Rattle.airy_math.specs.Shapes.{eq_z}
+use Rattle.airy_math.proofs.SameNumbers.{same_z}
 
 le_z-same : (x : ℤ) → le_z x x ≡ true
 le_z-same (pos n) = grind (arith, nat_tests)
@@ -14,13 +15,6 @@ le_z-same (negsuc n) = grind (arith, nat_tests)
 pub eq_z-same : (x y : ℤ) → x ≡ y → eq_z x y ≡ true
 unfolding eq_z
 eq_z-same x y e = rw e (rw (le_z-same y) refl)
-
-pub same-eq_z : (x y : ℤ) → eq_z x y ≡ true → x ≡ y
-unfolding eq_z
-same-eq_z (pos n) (pos m) h = ap pos (grind (arith, nat_tests))
-same-eq_z (pos n) (negsuc m) h = cc
-same-eq_z (negsuc n) (pos m) h = cc
-same-eq_z (negsuc n) (negsuc m) h = ap negsuc (grind (arith, nat_tests))
 
 -- a test of two machine numbers is that of the integers
 pub eqb-of_z : (x y : ℤ) → FitsSigned w32 x → FitsSigned w32 y → eqb (of_z w32 x) (of_z w32 y) ≡ eq_z x y
@@ -32,4 +26,4 @@ eqb-of_z x y p q = by (eqb (of_z w32 x) (of_z w32 y)) (eq_z x y) refl refl
     by true false a b =
         let e : x ≡ y = sym (to_z-of_z w32 x p) ∙ ap (to_z w32) (eqb-true (of_z w32 x) (of_z w32 y) a) ∙ to_z-of_z w32 y q in
         sym (eq_z-same x y e) ∙ b
-    by false true a b = sym a ∙ eq-eqb (of_z w32 x) (of_z w32 y) (ap (of_z w32) (same-eq_z x y b))
+    by false true a b = sym a ∙ eq-eqb (of_z w32 x) (of_z w32 y) (ap (of_z w32) (same_z x y b))

@@ -11,7 +11,7 @@ use Rattle.sparse_tensor.specs.Grades.{AreEntries, keeps_a, keeps_b, keeps_c, ke
 use Rattle.sparse_tensor.specs.Puts.{Putting, Free, IsAllowed, putting, are_inside, putting_a, putting_b, putting_c, putting_d, with_a, with_b, with_c, with_d}
 use Rattle.sparse_tensor.proofs.EntryLemmas.{value_at-with_entry, value_of-with_value, free_from_zero, not_given_from_zero}
 
-inside : (dim i j k : ℕ) → i < dim → j < dim → k < dim → are_inside dim i j k ≡ true
+pub inside : (dim i j k : ℕ) → i < dim → j < dim → k < dim → are_inside dim i j k ≡ true
 unfolding are_inside
 inside dim i j k p q r = grind (arith, nat_tests)
 

@@ -6,8 +6,9 @@ use Rattle.airy_math.specs.Rational.{ℚ}
 use Rattle.airy_math.specs.RationalLaws.{0ℚ}
 use Rattle.airy_math.specs.Sums.{count_from, below, each, keep}
 use Rattle.airy_math.specs.Tensors.{is_zero, row_b, row_c}
-use Rattle.airy_math.proofs.SumLemmas.{Each, Each-weaken}
-use Rattle.airy_math.proofs.EachLemmas.{keep-append}
+use Rattle.airy_math.proofs.SumLemmas.{Each, Each-count, Each-from_all, Each-weaken}
+use Rattle.airy_math.proofs.EachLemmas.{each-cong, each-map, each-none, keep-append, keep-singles}
+use Rattle.airy_math.proofs.SamePlanLaw.{each-cong_each}
 use Rattle.sparse_tensor.specs.Items.{picked}
 use Rattle.sparse_tensor.specs.Entries.{Entry, Entries, same_place, value_at, looked_up, place_before}
 use Rattle.sparse_tensor.specs.Grades.{IsAscending, AreStored, AreOrdered, AreEntries, keeps_b, keeps_c}
@@ -18,33 +19,12 @@ use Rattle.sparse_tensor.proofs.SoundLaw.{is_zero-0ℚ, is_zero-some}
 -- ---- lists of lists
 
 keep-map : {A B : Type 0} (p : B → Bool) (f : A → B) (xs : List A) → keep p (map f xs) ≡ each xs (λ x. cond (p (f x)) (f x ∷ []) [])
-unfolding keep each
-keep-map p f [] = refl
-keep-map {B = B} p f (x ∷ xs) = by (p (f x)) (keep-map p f xs)
-  where
-    by : (t : Bool) → keep p (map f xs) ≡ each xs (λ x. cond (p (f x)) (f x ∷ []) []) → ◌≡◌ {A = List B} (elim t [ true ↦ f x ∷ keep p (map f xs) | false ↦ keep p (map f xs) ]) (cond t (f x ∷ []) [] ++ each xs (λ x. cond (p (f x)) (f x ∷ []) []))
-    by true h = ap (λ l. f x ∷ l) h
-    by false h = h
+keep-map p f xs = keep-singles p (map f xs) ∙ each-map (λ y. cond (p y) (y ∷ []) []) f xs
 
 keep-each : {A B : Type 0} (p : B → Bool) (f : A → List B) (xs : List A) → keep p (each xs f) ≡ each xs (λ x. keep p (f x))
 unfolding each
 keep-each p f [] = unfold keep in refl
 keep-each p f (x ∷ xs) = keep-append p (f x) (each xs f) ∙ ap (λ l. keep p (f x) ++ l) (keep-each p f xs)
-
-each-cong : {A B : Type 0} (f g : A → List B) (xs : List A) → ((x : A) → f x ≡ g x) → each xs f ≡ each xs g
-unfolding each
-each-cong f g [] h = refl
-each-cong f g (x ∷ xs) h = ap₂ (λ a b. a ++ b) (h x) (each-cong f g xs h)
-
-each-none : {A B : Type 0} (f : A → List B) (xs : List A) → ((x : A) → f x ≡ []) → each xs f ≡ []
-unfolding each
-each-none f [] h = refl
-each-none f (x ∷ xs) h = ap₂ (λ a b. a ++ b) (h x) (each-none f xs h)
-
-count-cong : {B : Type 0} (f g : ℕ → List B) (n m : ℕ) → ((a : ℕ) → n ≤ a → f a ≡ g a) → each (count_from n m) f ≡ each (count_from n m) g
-unfolding each count_from
-count-cong f g n zero h = refl
-count-cong f g n (suc m) h = ap₂ (λ a b. a ++ b) (h n (omega arith)) (count-cong f g (suc n) m (λ a l. h a (omega arith)))
 
 -- one more in front of the first that isn't empty
 each-insert : {B : Type 0} (f g : ℕ → List B) (x : B) (p n m : ℕ) → n ≤ p → p < n + m → ((a : ℕ) → (a ≡ p → ⊥) → f a ≡ g a) → f p ≡ x ∷ g p → ((a : ℕ) → a < p → g a ≡ []) → each (count_from n m) f ≡ x ∷ each (count_from n m) g
@@ -56,7 +36,7 @@ each-insert f g x p n (suc m) l r other here empty = elim (cases_lt n p) [
       ∙ sym (ap (λ u. x ∷ (u ++ each (count_from (suc n) m) g)) (empty n a))
   | inr a ↦
       let same : p ≡ n = omega arith in
-      ap₂ (λ u v. u ++ v) (subst (λ q. f q ≡ x ∷ g q) same here) (count-cong f g (suc n) m (λ b k. other b (λ e. omega arith)))
+      ap₂ (λ u v. u ++ v) (subst (λ q. f q ≡ x ∷ g q) same here) (each-cong_each f g (count_from (suc n) m) (Each-count _ (suc n) m (λ b k l. other b (λ e. omega arith))))
 ]
 
 -- ---- the order of places
@@ -95,7 +75,7 @@ not_yet s false a m n e h l = refl
 
 -- the picked items are those with the key 0, those with the key 1, and so on
 by_key : {E F : Type 0} (p : E → Bool) (key : E → ℕ) (q : ℕ → E → Bool) (f : E → F) (n : ℕ) → ((a : ℕ) (e : E) → q a e ≡ (p e && eqb a (key e))) → (es : List E) → Each (λ e. key e < n) es → Later (λ x y. p x ≡ true → p y ≡ true → key x ≤ key y) es → picked p f es ≡ each (below n) (λ a. picked (q a) f es)
-by_key p key q f n s [] l h = sym (each-none _ (below n) (λ a. refl))
+by_key p key q f n s [] l h = sym (each-none _ (below n) (Each-from_all _ (below n) (λ a. refl)))
 by_key {F = F} p key q f n s (e ∷ es) l h = by (p e) refl (by_key p key q f n s es l.1 h.1)
   where
     others : (a : ℕ) (t : Bool) → q a e ≡ t → t ≡ false → picked (q a) f es ≡ picked (q a) f (e ∷ es)

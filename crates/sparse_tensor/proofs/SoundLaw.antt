@@ -12,8 +12,8 @@ use Rattle.airy_math.specs.Tensors.{IsSymmetric, IsGraded, is_zero}
 use Rattle.airy_math.proofs.PivotLemmas.{zero_number}
 use Rattle.sparse_tensor.specs.Entries.{Entry, Entries, no_entries, looked_up, value_at, value_of}
 use Rattle.sparse_tensor.specs.Grades.{keeps, keeps_a, keeps_b, keeps_c, keeps_d, AreStored, AreStoredByIndex, AreEntries, AreSound, IsSmallLaw, IsAtMost, IsAscending, IsAscendingByIndex, AreOrdered, AreInRange, AreInRangeByIndex}
-use Rattle.sparse_tensor.proofs.GradeLemmas.{same-eq_z}
 use Rattle.sparse_tensor.proofs.EntryLemmas.{value_at-or, value_of-or}
+use Rattle.airy_math.proofs.SameNumbers.{same_z}
 
 -- ---- zero
 
@@ -27,6 +27,8 @@ is_zero-some v h = by (is_zero v) refl
     by : (t : Bool) → is_zero v ≡ t → t ≡ false
     by true e = absurd (h (zero_number v e))
     by false e = refl
+
+pub ruleset zero_tests = (is_zero-0ℚ, is_zero-some)
 
 pub some_number : (v : ℚ) → is_zero v ≡ false → v ≡ 0ℚ → ⊥
 some_number v h e = false≢true (sym h ∙ ap is_zero e ∙ is_zero-0ℚ)
@@ -45,7 +47,7 @@ symmetric t = record {
 Keeps-keeps : (s : Shape) (x y : ℤ) → keeps s x y ≡ true → Keeps s x y
 unfolding keeps Keeps
 Keeps-keeps All x y h = tt
-Keeps-keeps (Exact l) x y h = same-eq_z x y h
+Keeps-keeps (Exact l) x y h = same_z x y h
 Keeps-keeps (AtMost l) x y h = le_z_yes (T_from_true (le_z x y) h)
 
 graded-at : (grade : ℕ → ℕ → ℕ → Bool) (dim : ℕ) (es : List Entry) (i j k : ℕ) → AreStored grade dim es → (value_at es i j k ≡ 0ℚ) ⊎ (grade i j k ≡ true)

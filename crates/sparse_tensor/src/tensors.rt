@@ -80,6 +80,7 @@ fn keeps_in(part: Part, shape: Shape, i: u8, j: u8, k: u8) -> bool
 }
 
 /// Whether the entry v is to be stored, or why it can't be.
+#[tactic(auto, using(crate::proofs::SoundLaw::zero_tests))]
 fn admitted(inside: bool, v: Frac, graded: bool) -> Result<bool, PutErr>
     ensures { result ≡ checked inside (is_zero v) graded }
 {
@@ -146,6 +147,7 @@ impl Tensors {
     }
 
     /// Stores an entry that passes the checks, and answers whether its place was free.
+    #[tactic(auto, unfolding(crate::specs::Puts::are_inside))]
     fn store(&mut self, part: Part, i: u8, j: u8, k: u8, v: Frac) -> Result<bool, NoMemory>
         requires { IsAdmitted (are_inside self.old.dim i j k) (is_zero v) (keeps_in part self.old.shape i j k) }
         ensures { PutsIn result (taken_in part self.old i j k) self.old (with_in part self.old i j k v) self.new }
@@ -220,6 +222,17 @@ impl Tensors {
         self.d.put(i, v)
     }
 
+    /// Puts an entry of D, as `put_d` does.
+    fn put_value(&mut self, i: u8, v: Frac) -> Result<(), PutErr>
+        ensures { IsPut result (putting_d self.old i v) self.old (with_d self.old i v) self.new }
+    {
+        match self.admitted_d(i, v) {
+            Err(why) => Err(why),
+            Ok(false) => Ok(()),
+            Ok(true) => stored(self.store_d(i, v)),
+        }
+    }
+
     /// Puts `D^i`. A zero value stores nothing.
     pub fn put_d(&mut self, i: u8, v: Frac) -> Result<(), PutErr>
         ensures index { IsErrOf result PutErr.Index ↔ (putting_d self.old i v ≡ Outside) }
@@ -230,11 +243,7 @@ impl Tensors {
         ensures put { OnOk result (self.new ≡ with_d self.old i v) }
         ensures same { OnErr result (self.new ≡ self.old) }
     {
-        match self.admitted_d(i, v) {
-            Err(why) => Err(why),
-            Ok(false) => Ok(()),
-            Ok(true) => stored(self.store_d(i, v)),
-        }
+        self.put_value(i, v)
     }
 
     /// `A^i_{jk}`, 0 where no entry stands there.

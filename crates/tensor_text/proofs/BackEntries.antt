@@ -19,10 +19,10 @@ use Rattle.tensor_text.specs.Canonical.{letter_text, place_text, index_text}
 use Rattle.tensor_text.specs.Pieces.{first_in}
 use Rattle.tensor_text.proofs.PieceLaw.{number, number_at, Rise, number-behind, apart}
 use Rattle.tensor_text.proofs.GrammarLemmas.{entries_stored}
-use Rattle.tensor_text.proofs.ZeroLemmas.{some_test}
 use Rattle.tensor_text.proofs.BackValues.{index_back, value_back}
 use Rattle.tensor_text.proofs.BackLines.{Ink, AreWords, joined, joined_line, decimal_word, fraction_word, place_line_words, place_is, index_is}
 use Rattle.airy_math.proofs.SumLemmas.{Each, Each-weaken}
+use Rattle.sparse_tensor.proofs.SoundLaw.{is_zero-some}
 
 -- ---- an entry behind all others
 
@@ -87,7 +87,7 @@ letter_read C t more = refl
 
 stored_new : (taken : Bool) (v : ℚ) (t : Entries) → (v ≡ 0ℚ → ⊥) → taken ≡ false → stored true taken v t ≡ Stored t
 unfolding stored
-stored_new taken v t some e = rw (some_test v some, e) refl
+stored_new taken v t some e = rw (is_zero-some v some, e) refl
 
 ordered_min : (j k : ℕ) → j ≤ k → (min j k ≡ j) × (max j k ≡ k)
 ordered_min j k h = (omega arith, omega arith)
@@ -101,9 +101,9 @@ taken_last C t done e h b = let m = ordered_min e.j e.k h in rw (m.0, m.1) (free
 with_last : (letter : Part) (t : Entries) (done : List Entry) (e : Entry) → first_in letter e.j ≤ e.k → (e.v ≡ 0ℚ → ⊥) → e.j < 72 → e.k < 72 → Below (number e) done
     → with_in letter (with_list letter t done) e.i e.j e.k e.v ≡ with_list letter t (done ++ e ∷ [])
 unfolding with_in with_list with_a with_b with_c
-with_last A t done e h some p q b = let m = ordered_min e.j e.k h in rw (some_test e.v some, m.0, m.1, put-last e done p q b) refl
-with_last B t done e h some p q b = rw (some_test e.v some, put-last e done p q b) refl
-with_last C t done e h some p q b = let m = ordered_min e.j e.k h in rw (some_test e.v some, m.0, m.1, put-last e done p q b) refl
+with_last A t done e h some p q b = let m = ordered_min e.j e.k h in rw (is_zero-some e.v some, m.0, m.1, put-last e done p q b) refl
+with_last B t done e h some p q b = rw (is_zero-some e.v some, put-last e done p q b) refl
+with_last C t done e h some p q b = let m = ordered_min e.j e.k h in rw (is_zero-some e.v some, m.0, m.1, put-last e done p q b) refl
 
 said_last : (letter : Part) (t : Entries) (done : List Entry) (e : Entry) → IsReadable t.shape t.dim letter e → Below (number e) done
     → said (with_list letter t done) (place_line_words letter e) ≡ Stored (with_list letter t (done ++ e ∷ []))
@@ -195,7 +195,7 @@ index_read t e r = rw (index_back t.dim e.0 r.i r.small, value_back e.1 r.range,
 
 with_last_value : (t : Entries) (done : List (ℕ × ℚ)) (e : ℕ × ℚ) → (e.1 ≡ 0ℚ → ⊥) → BelowIndex e.0 done → with_d (with_values t done) e.0 e.1 ≡ with_values t (done ++ e ∷ [])
 unfolding with_values with_d
-with_last_value t done e some b = rw (some_test e.1 some, put-last-value e done b) refl
+with_last_value t done e some b = rw (is_zero-some e.1 some, put-last-value e done b) refl
 
 taken_last_value : (t : Entries) (done : List (ℕ × ℚ)) (e : ℕ × ℚ) → BelowIndex e.0 done → is_given (with_values t done).d e.0 ≡ false
 unfolding with_values

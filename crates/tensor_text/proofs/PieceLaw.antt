@@ -11,7 +11,8 @@ use Rattle.tensor_text.specs.Canonical.{place_text, index_text}
 use Rattle.tensor_text.specs.Pieces.{each_from, value_in, place_piece, row_piece, plane_piece, places_piece, index_piece, indices_piece, entries_of}
 use Rattle.sparse_tensor.specs.declared.parts.Part.{Part}
 use Rattle.sparse_tensor.specs.declared.parts.Part.TheVariants.{A, B, C}
-use Rattle.tensor_text.proofs.ZeroLemmas.{zero_test, some_test}
+use Rattle.tensor_text.proofs.ZeroLemmas.{zero_test}
+use Rattle.sparse_tensor.proofs.SoundLaw.{is_zero-some}
 
 -- ---- places as numbers
 
@@ -93,7 +94,7 @@ piece-none : (text : Entry → List ℕ) (i j k : ℕ) (v : ℚ) → v ≡ 0ℚ 
 piece-none text i j k v e = rw (zero_test v e) refl
 
 piece-some : (text : Entry → List ℕ) (i j k : ℕ) (v : ℚ) → (v ≡ 0ℚ → ⊥) → piece text i j k v ≡ text (record { i = i; j = j; k = k; v = v })
-piece-some text i j k v e = rw (some_test v e) refl
+piece-some text i j k v e = rw (is_zero-some v e) refl
 
 step-here : (text : Entry → List ℕ) (i j k : ℕ) (e : Entry) (es : List Entry) → j < 100 → k < 100 → e.j < 100 → e.k < 100 → (e.v ≡ 0ℚ → ⊥) → Rise (suc (number e)) es → number e ≡ number_at i j k
     → piece text i j k (value_at (e ∷ es) i j k) ++ flat_map text (from (suc (number_at i j k)) (e ∷ es)) ≡ flat_map text (from (number_at i j k) (e ∷ es))
@@ -352,7 +353,7 @@ at-none : (i : ℕ) (v : ℚ) → v ≡ 0ℚ → piece_at i v ≡ []
 at-none i v e = rw (zero_test v e) refl
 
 at-some : (i : ℕ) (v : ℚ) → (v ≡ 0ℚ → ⊥) → piece_at i v ≡ index_text (i, v)
-at-some i v e = rw (some_test v e) refl
+at-some i v e = rw (is_zero-some v e) refl
 
 value-at-index : (i : ℕ) (e : ℕ × ℚ) (es : List (ℕ × ℚ)) → i ≡ e.0 → value_of (e ∷ es) i ≡ e.1
 unfolding value_of

@@ -1,12 +1,11 @@
 -- What becomes of an entry, by what putting it answers.
-use Rattle.std.proofs.Common.{◌≡◌, ℕ, ◌<◌, Bool, true, false, cond, refl, sym, ap, Ok, Err, Result}
-use Rattle.std.proofs.lemmas.Bool.{lt-ltb}
+use Rattle.std.proofs.Common.{◌≡◌, Bool, true, false, cond, refl, sym, ap, Ok, Err, Result}
 use Rattle.airy_math.specs.Rational.{ℚ}
 use Rattle.airy_math.specs.Tensors.{is_zero}
 use Rattle.sparse_tensor.specs.declared.tensors.PutErr.{PutErr}
 use Rattle.sparse_tensor.specs.declared.tensors.PutErr.TheVariants as puts
 use Rattle.sparse_tensor.specs.Entries.{Entries}
-use Rattle.sparse_tensor.specs.Puts.{putting, are_inside, IsPut}
+use Rattle.sparse_tensor.specs.Puts.{putting, IsPut}
 use Rattle.tensor_text.specs.declared.refusals.LineKind.TheVariants.{Grade, Twice}
 use Rattle.tensor_text.specs.Grammar.{Stored, Fails, stored}
 use Rattle.tensor_text.specs.Steps.{Stores, refused_put}
@@ -36,7 +35,3 @@ pub puts_here : (r : Result Unit PutErr) (inside graded taken : Bool) (v : ℚ) 
     → IsPut r (putting inside (is_zero v) graded taken) old with new → Stores (refused_put r) new (stored graded taken v with)
 unfolding stored
 puts_here r inside graded taken v old with new i p = by_answer r (is_zero v) graded taken old with new (rw i at p)
-
-pub inside_three : (dim i j k : ℕ) → i < dim → j < dim → k < dim → are_inside dim i j k ≡ true
-unfolding are_inside
-inside_three dim i j k a b c = rw (lt-ltb i dim a, lt-ltb j dim b, lt-ltb k dim c) refl

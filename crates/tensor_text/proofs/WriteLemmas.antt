@@ -1,9 +1,8 @@
 -- Texts that are written one after the other, and a part of the last.
-use Rattle.std.proofs.Common.{◌≡◌, ℕ, zero, suc, ◌+◌, ◌-◌, ◌<◌, ◌≤◌, Bool, List, [], ◌++◌, refl, sym, ap, ◌∙◌, subst, arith, append_assoc, append-nil, length-append, Ok, Err, Result, Option, Some, None, codes}
+use Rattle.std.proofs.Common.{◌≡◌, ℕ, zero, suc, ◌+◌, ◌-◌, ◌<◌, ◌≤◌, Bool, List, [], ◌++◌, refl, sym, ap, ◌∙◌, subst, arith, append_assoc, append-nil, length-append, Ok, Err, Result, Option, codes}
 use Rattle.std.specs.Io.KnownBytes.{Appends}
 use Rattle.std.proofs.lemmas.List.{take-append-le}
 use Rattle.airy_io.specs.Causes.{AppendsPrefix, Taking, Writes}
-use Rattle.airy_io.proofs.Writes.{Appends-more}
 use Rattle.airy_io.proofs.Prefixes.{AppendsPrefix-more}
 use Rattle.airy_math.specs.declared.Law.{Law}
 use Rattle.airy_math.specs.declared.Shape.TheVariants.{Exact}
@@ -11,6 +10,7 @@ use Rattle.tensor_text.specs.Canonical.{law_text, shape_text}
 use Rattle.tensor_text.specs.Pieces.{each_from, first_in}
 use Rattle.sparse_tensor.specs.declared.parts.Part.{Part}
 use Rattle.sparse_tensor.specs.declared.parts.Part.TheVariants.{A, B, C}
+use Rattle.std.proofs.KnownBytes.{Appends-trans, Appends-nil}
 
 cut_longer : (a b : Option (List ℕ)) (xs ys : List ℕ) → AppendsPrefix a b xs → AppendsPrefix a b (xs ++ ys)
 cut_longer a b xs ys p = (p.0, omega (arith, p.1, length-append xs ys), rw (take-append-le p.0 xs ys p.1) p.2)
@@ -24,7 +24,7 @@ cut_first xs ys a b e w = record { written = tt; prefix = cut_longer a.taken b.t
 
 -- what is written behind a text
 pub written_behind : {T E : Type 0} (xs ys : List ℕ) (a b c : Taking) (r : Result T E) → Appends a.taken b.taken xs → b.faults ≡ a.faults → Writes ys b c r → Writes (xs ++ ys) a c r
-written_behind xs ys a b c (Ok x) p e w = record { written = Appends-more a.taken b.taken c.taken xs ys p w.written; prefix = tt; cause = rw (← e) w.cause }
+written_behind xs ys a b c (Ok x) p e w = record { written = Appends-trans a.taken b.taken c.taken xs ys p w.written; prefix = tt; cause = rw (← e) w.cause }
 written_behind xs ys a b c (Err x) p e w = record { written = tt; prefix = cut_behind a.taken b.taken c.taken xs ys p w.prefix; cause = rw (← e) w.cause }
 
 pub each-split : (f : ℕ → List ℕ) (a m n : ℕ) → each_from f a (m + n) ≡ each_from f a m ++ each_from f (a + m) n
@@ -54,13 +54,8 @@ each-parts f a n k h l =
     ap (each_from f a) e ∙ each-split f a (k - a) (1 + (a + n - (k + 1))) ∙ ap (λ w. each_from f a (k - a) ++ w)
     (ap (λ m. each_from f m (1 + (a + n - (k + 1)))) s ∙ each-split f k 1 (a + n - (k + 1)) ∙ ap (λ w. w ++ each_from f (k + 1) (a + n - (k + 1))) (each-one f k))
 
--- nothing is written
-pub nothing_written : (a : Option (List ℕ)) → Appends a a []
-nothing_written None = tt
-nothing_written (Some xs) = sym (append-nil xs)
-
 pub writes_nothing : {T E : Type 0} (a : Taking) (x : T) → Writes {E = E} [] a a (Ok x)
-writes_nothing a x = record { written = nothing_written a.taken; prefix = tt; cause = record { later = omega arith; failed = tt; kept = refl } }
+writes_nothing a x = record { written = Appends-nil a.taken; prefix = tt; cause = record { later = omega arith; failed = tt; kept = refl } }
 
 pub has_written : {T E : Type 0} (text : List ℕ) (a b : Taking) (x : T) → Appends a.taken b.taken text → b.faults ≡ a.faults → Writes {E = E} text a b (Ok x)
 has_written text a b x p e = record { written = p; prefix = tt; cause = record { later = omega arith; failed = tt; kept = e } }
@@ -81,7 +76,7 @@ pub writing_begins : (f : ℕ → List ℕ) (p n k : ℕ) (a : Taking) → k ≡
 unfolding each_from
 writing_begins f p n k a e =
     let none : k - p ≡ 0 = omega arith in
-    record { from = omega arith; within = omega arith; written = rw none (nothing_written a.taken); kept = refl }
+    record { from = omega arith; within = omega arith; written = rw none (Appends-nil a.taken); kept = refl }
 
 module _ {T E : Type 0} (f : ℕ → List ℕ) (p n k : ℕ) (a b : Taking) (is : IsWriting f p n k a b) where
   -- one more piece
@@ -89,7 +84,7 @@ module _ {T E : Type 0} (f : ℕ → List ℕ) (p n k : ℕ) (a b : Taking) (is 
   writing_next c x l w = record {
     from = omega (arith, is.from);
     within = omega arith;
-    written = rw (each-more f p k is.from) (Appends-more a.taken b.taken c.taken (each_from f p (k - p)) (f k) is.written w.written);
+    written = rw (each-more f p k is.from) (Appends-trans a.taken b.taken c.taken (each_from f p (k - p)) (f k) is.written w.written);
     kept = w.cause.kept ∙ is.kept;
   }
 

@@ -1,9 +1,8 @@
 -- The test of a fraction against 0.
-use Rattle.std.proofs.Common.{◌≡◌, Bool, true, false, refl, ap, ◌∙◌}
+use Rattle.std.proofs.Common.{◌≡◌, true, refl, ap, ◌∙◌}
 use Rattle.airy_math.specs.Rational.{ℚ, ℚ_computes}
 use Rattle.airy_math.specs.RationalLaws.{0ℚ}
 use Rattle.airy_math.specs.Tensors.{is_zero}
-use Rattle.airy_math.proofs.PivotLemmas.{zero_number}
 
 zero_tests : is_zero 0ℚ ≡ true
 unfolding ℚ_computes 0ℚ is_zero
@@ -11,10 +10,3 @@ zero_tests = refl
 
 pub zero_test : (v : ℚ) → v ≡ 0ℚ → is_zero v ≡ true
 zero_test v e = ap is_zero e ∙ zero_tests
-
-pub some_test : (v : ℚ) → (v ≡ 0ℚ → ⊥) → is_zero v ≡ false
-some_test v h = by (is_zero v) refl
-  where
-    by : (t : Bool) → is_zero v ≡ t → t ≡ false
-    by true e = absurd (h (zero_number v e))
-    by false e = refl

@@ -1,3 +1,4 @@
+-- For private functions and for proofs: no public contract rests on this file.
 -- The canonical text as it is written: what stands at each place, in the order of places.
 use Rattle.std.specs.Prelude.{ℕ, zero, suc, ◌+◌, ◌-◌, List, [], ◌++◌, cond}
 use Rattle.airy_math.specs.Rational.{ℚ}

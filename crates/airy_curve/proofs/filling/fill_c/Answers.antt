@@ -1,47 +1,34 @@
-use Rattle.std.proofs.Common.{◌≡◌, ◌+◌, ◌≤◌, inl, inr, sym, ap, subst, ◌∙◌, arith}
+use Rattle.std.proofs.Common.{◌+◌, ◌≤◌, sym, ap, ◌∙◌, arith}
+use Rattle.std.proofs.lemmas.Bool.{le-leb}
 use Rattle.std.proofs.lemmas.Result.{on_ok_weaker}
-use Rattle.sparse_tensor.specs.Entries.{Entries}
 use Rattle.sparse_tensor.specs.Puts.{with_c}
 use Rattle.sparse_tensor.proofs.PutFacts.{at_ok}
-use Rattle.airy_curve.specs.Filling.{FillsC}
+use Rattle.airy_curve.specs.Filling.{entry_c}
 use Rattle.airy_curve.specs.Numbers.{held}
-use Rattle.airy_curve.proofs.FillingLaw.{exponent-none, exponent-some, room-c, next-c, skip-c}
-use Rattle.airy_curve.proofs.StepLemmas.{held-read}
-use Rattle.airy_curve.proofs.ValueLemmas.{others-c}
+use Rattle.airy_curve.proofs.FillingLaw.{at, entry-at, exponent-some, none_c}
+use Rattle.airy_curve.proofs.PutLemmas.{may_c}
 use Rattle.airy_curve.proofs.filling.fill_c.Goals as goal
 
-pub returns-then-k-j-clause-filled : goal.returns-then-k-j-clause-filled
-returns-then-k-j-clause-filled c = skip-c (held c.args.numbers.now) c.args.most c.args.i c.args.j c.args.k c.args.tensors.now c.requires.before (inl (omega arith))
+pub returns-in_default : goal.returns-in_default
+returns-in_default c =
+    let ordered : c.args.j ≤ c.args.k = omega arith in
+    rw (le-leb c.args.j c.args.k ordered) (none_c (held c.args.numbers.now) c.args.most c.args.i c.args.j c.args.k c.args.tensors.now (sym c.exponent.ensures ∙ c.in_default.is))
 
-pub returns-in_default-clause-filled : goal.returns-in_default-clause-filled
-returns-in_default-clause-filled c =
-    skip-c (held c.args.numbers.now) c.args.most c.args.i c.args.j c.args.k c.args.tensors.now c.requires.before (inr (exponent-none _ _ _ (sym c.exponent.ensures ∙ c.in_default.is)))
-
-pub listed : goal.listed
-listed c = let e = exponent-some _ _ _ _ (sym c.exponent.ensures ∙ c.in-Some.is) in omega (arith, e.high, e.is, c.requires.place.most', c.type_inv.numbers)
-
-pub bounds-numbers-e : goal.bounds-numbers-e
-bounds-numbers-e c = let e = exponent-some _ _ _ _ (sym c.exponent.ensures ∙ c.in-Some.is) in omega (arith, e.high, e.is, c.requires.place.most')
+pub number_at-requires : goal.number_at-requires
+number_at-requires c = let e = exponent-some _ _ _ _ (sym c.exponent.ensures ∙ c.in-Some.is) in omega (arith, e.high, c.requires.place.most')
 
 pub unless_wanting-requires : goal.unless_wanting-requires
 unless_wanting-requires c =
     let e = exponent-some _ _ _ _ (sym c.exponent.ensures ∙ c.in-Some.is) in
-    c.put_c.ensures.allowed (room-c (held c.args.numbers.now) c.args.most c.args.i c.args.j c.args.k c.args.tensors.now _ c.soundness_fact.ensures.entries c.requires.place c.requires.before (omega arith) e.low).allowed
+    c.put_c.ensures.allowed
+    (may_c (held c.args.numbers.now) c.args.most c.args.tensors.now c.args.i c.args.j c.args.k c.in-Some.e c.number_at.result c.requires.place e.high e.low (omega arith) c.number_at.ensures c.requires.free)
 
-pub returns-clause-filled : goal.returns-clause-filled
-returns-clause-filled c =
-    let f = held c.args.numbers.now in
-    let e = exponent-some _ _ _ _ (sym c.exponent.ensures ∙ c.in-Some.is) in
-    let number : f c.in-Some.e ≡ c.index-numbers-e.result = held-read c.args.numbers.now c.in-Some.e c.index-numbers-e.result (omega (arith, e.high, e.is, c.requires.place.most', c.type_inv.numbers)) c.index-numbers-e.is in
+pub returns : goal.returns
+unfolding entry_c
+returns c =
     let ordered : c.args.j ≤ c.args.k = omega arith in
-    let put = room-c f c.args.most c.args.i c.args.j c.args.k c.args.tensors.now c.index-numbers-e.result c.soundness_fact.ensures.entries c.requires.place c.requires.before ordered e.low in
-    on_ok_weaker c.unless_wanting.result
-    (λ ok. subst (FillsC f c.args.most c.args.i c.args.j (c.args.k + 1)) (sym (at_ok c.put_c.result ok c.put_c.ensures.put ∙ ap (with_c c.args.tensors.now c.args.i c.args.j c.args.k) (sym c.index-numbers-e.is)))
-    (next-c f c.args.most c.args.i c.args.j c.args.k c.args.tensors.now c.index-numbers-e.result put c.requires.before ordered e.low e.high (ap f (sym e.is) ∙ number)))
-    c.unless_wanting.ensures
-
-pub returns-clause-others : goal.returns-clause-others
-returns-clause-others c =
-    on_ok_weaker c.unless_wanting.result
-    (λ ok. subst (λ (u : Entries). u ≡ record c.args.tensors.now { c = u.c }) (sym (at_ok c.put_c.result ok c.put_c.ensures.put ∙ ap (with_c c.args.tensors.now c.args.i c.args.j c.args.k) (sym c.index-numbers-e.is))) (others-c c.args.tensors.now c.args.i c.args.j c.args.k c.index-numbers-e.result))
-    c.unless_wanting.ensures
+    let number = entry-at (held c.args.numbers.now) c.args.most (c.args.j + c.args.k + 2) c.args.i ∙ ap (at (held c.args.numbers.now)) (sym c.exponent.ensures ∙ c.in-Some.is) in
+    rw (le-leb c.args.j c.args.k ordered)
+    (on_ok_weaker c.unless_wanting.result
+    (λ ok. at_ok c.put_c.result ok c.put_c.ensures.put ∙ ap (with_c c.args.tensors.now c.args.i c.args.j c.args.k) (c.number_at.ensures ∙ sym number))
+    c.unless_wanting.ensures)

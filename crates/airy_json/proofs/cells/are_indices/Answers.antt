@@ -1,6 +1,5 @@
 use Rattle.std.proofs.Common.{◌≡◌, get_or, false, true, sym, arith, rules, ◌∙◌}
-use Rattle.serde_json.specs.View.{view}
-use Rattle.airy_json.proofs.Common.{whole, is_whole}
+use Rattle.airy_json.proofs.Common.{whole, is_whole, view}
 use Rattle.airy_json.proofs.FormLemmas.{indices-other, indices-at, indices-end}
 use Rattle.airy_json.proofs.cells.are_indices.Goals as goal
 

@@ -1,6 +1,5 @@
 use Rattle.std.proofs.Common.{◌≡◌, length, drop}
-use Rattle.serde_json.specs.View.{items_view}
-use Rattle.airy_json.proofs.Common.{are_indices}
+use Rattle.airy_json.proofs.Common.{are_indices, items_view}
 use Rattle.airy_json.proofs.cells.are_indices.Given as goal
 
 abbrev pub invariant-loop-place : goal.invariant-loop-place

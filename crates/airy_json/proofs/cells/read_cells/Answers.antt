@@ -1,6 +1,5 @@
 use Rattle.std.proofs.Common.{◌≡◌, List, [], ◌∷◌, ◌++◌, ◌+◌, None, Some, sym, subst, arith, rules}
-use Rattle.airy_json.proofs.Common.{ℚ, cell_value}
-use Rattle.serde_json.specs.View.{view}
+use Rattle.airy_json.proofs.Common.{ℚ, cell_value, view}
 use Rattle.airy_json.proofs.CellLemmas.{ReadUpTo, short, long, ended, stops, goes_on}
 use Rattle.airy_json.proofs.cells.read_cells.Goals as goal
 

@@ -1,6 +1,6 @@
 use Rattle.std.proofs.Common.{sym, ap, ◌∙◌}
-use Rattle.named_families.specs.Families.{Names}
 use Rattle.airy_json.proofs.Common.{Unmade, kind_seen}
+use Rattle.named_families.specs.Families.{Names}
 use Rattle.airy_json.proofs.PlanLemmas.{same_limit, same_keys, unmade, passes, plans}
 use Rattle.airy_json.proofs.reading.make_plan.Goals as goal
 

@@ -1,5 +1,5 @@
 use Rattle.std.proofs.Common.{sym, subst, rules}
-use Rattle.serde_json.specs.View.{view}
+use Rattle.airy_json.proofs.Common.{view}
 use Rattle.serde_json.specs.Errors.{IsMemory}
 use Rattle.airy_json.specs.Given.{Says}
 use Rattle.airy_json.proofs.DocumentLemmas.{answer-data, answer-none}

@@ -1,6 +1,5 @@
 use Rattle.std.proofs.Common.{sym, ap, ◌∙◌, arith}
-use Rattle.airy_json.proofs.Common.{ℚ, Key, Planning, tensors_of, keys_of, number_at, listed, every, given_to, said, verified}
-use Rattle.amp_plan.specs.Plans.{rank_at}
+use Rattle.airy_json.proofs.Common.{ℚ, Key, Planning, tensors_of, keys_of, number_at, listed, every, given_to, said, verified, rank_at}
 use Rattle.amp_terms.specs.Outcomes.{value_in}
 use Rattle.constraint_check.specs.Pivots.{numbers_shown, failing_from}
 use Rattle.constraint_check.proofs.StepLemmas.{no_keys}

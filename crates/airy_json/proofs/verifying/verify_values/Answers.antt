@@ -1,5 +1,5 @@
 use Rattle.std.proofs.Common.{sym, subst}
-use Rattle.airy_json.proofs.Common.{Planning, tensors_of, keys_of, Entries, looked_up, Says}
+use Rattle.airy_json.proofs.Common.{Planning, tensors_of, keys_of, Says}
 use Rattle.sparse_tensor.specs.Grades.{AreSound}
 use Rattle.airy_json.proofs.verifying.verify_values.Goals as goal
 

@@ -1,6 +1,5 @@
 use Rattle.std.proofs.Common.{rules, ◌≡◌, ◌++◌, false, OnOk, string_bytes, codes, decimal}
-use Rattle.serde_json.specs.Written.{items_text}
-use Rattle.airy_json.proofs.Common.{indices_data}
+use Rattle.airy_json.proofs.Common.{indices_data, items_text}
 use Rattle.airy_json.proofs.PieceLemmas.{on_ok, grown_cell}
 use Rattle.airy_json.proofs.writing.put_cell.Goals as goal
 

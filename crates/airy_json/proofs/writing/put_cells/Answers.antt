@@ -1,6 +1,5 @@
 use Rattle.std.proofs.Common.{rules, ◌≡◌, ◌++◌, ℕ, OnOk, length, arith, ◌≤◌, ◌<◌, subst, string_bytes, codes}
-use Rattle.serde_json.specs.Written.{compact_text}
-use Rattle.airy_json.proofs.Common.{IsInRange, keys_of, cell_data, value_in, values_in}
+use Rattle.airy_json.proofs.Common.{IsInRange, keys_of, cell_data, value_in, values_in, compact_text}
 use Rattle.amp_plan.specs.Plans.{key_at}
 use Rattle.airy_json.proofs.PieceLemmas.{on_ok, next_item, last_item, next_cell, no_cell, next_range}
 use Rattle.airy_json.proofs.writing.put_cells.Goals as goal

@@ -1,6 +1,5 @@
 use Rattle.std.proofs.Common.{◌≡◌, ◌++◌, ℕ, ◌<◌, false, drop, string_bytes, nat_lt}
-use Rattle.serde_json.specs.Written.{items_text}
-use Rattle.airy_json.proofs.Common.{IsInRange, keys_of, cells_data, value_in, values_in}
+use Rattle.airy_json.proofs.Common.{IsInRange, keys_of, cells_data, value_in, values_in, items_text}
 use Rattle.airy_json.proofs.writing.put_cells.Given as goal
 
 abbrev pub invariant-loop-rank : goal.invariant-loop-rank

@@ -1,6 +1,5 @@
 use Rattle.std.proofs.Common.{◌≡◌, ◌++◌, false, drop, string_bytes, nat_lt}
-use Rattle.serde_json.specs.Written.{items_text}
-use Rattle.airy_json.proofs.Common.{indices_data}
+use Rattle.airy_json.proofs.Common.{indices_data, items_text}
 use Rattle.airy_json.proofs.writing.put_indices.Given as goal
 
 abbrev pub invariant-loop-place : goal.invariant-loop-place

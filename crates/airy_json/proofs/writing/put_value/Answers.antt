@@ -1,6 +1,5 @@
 use Rattle.std.proofs.Common.{rules, ◌≡◌, ◌++◌, OnOk, sym, subst, IsUtf8, string_bytes, codes}
-use Rattle.airy_json.proofs.Common.{fraction_text}
-use Rattle.tensor_text.proofs.PlainLemmas.{plain-fraction, of-plain, utf8-ascii}
+use Rattle.airy_json.proofs.Common.{fraction_text, plain-fraction, of-plain, utf8-ascii}
 use Rattle.airy_json.proofs.PieceLemmas.{on_ok, grown_value}
 use Rattle.airy_json.proofs.writing.put_value.Goals as goal
 

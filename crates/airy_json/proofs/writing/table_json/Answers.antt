@@ -1,6 +1,5 @@
 use Rattle.std.proofs.Common.{rules, ◌≡◌, ◌++◌, ℕ, ◌<◌, ◌≤◌, length, get_or, sym, ◌∙◌, subst, arith, string_bytes, codes, decimal}
-use Rattle.std.proofs.lemmas.Str.{IsUtf8-string_bytes}
-use Rattle.airy_json.proofs.Common.{ℚ, IsInRange, keys_of, document_text, values_in}
+use Rattle.airy_json.proofs.Common.{ℚ, IsInRange, keys_of, document_text, values_in, IsUtf8-string_bytes}
 use Rattle.airy_json.proofs.PieceLemmas.{grown_document, length-values, get_or-values}
 use Rattle.airy_json.proofs.BackLaw.{document-back}
 use Rattle.airy_json.proofs.writing.table_json.Goals as goal

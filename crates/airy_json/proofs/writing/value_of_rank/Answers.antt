@@ -1,6 +1,6 @@
 use Rattle.std.proofs.Common.{◌≡◌, Some, refl, sym, ap, ◌∙◌}
-use Rattle.std.specs.Option.{unwrap_or}
 use Rattle.airy_json.proofs.Common.{0ℚ, value_in}
+use Rattle.std.specs.Option.{unwrap_or}
 use Rattle.airy_json.proofs.PieceLemmas.{some_value}
 use Rattle.airy_json.proofs.writing.value_of_rank.Goals as goal
 

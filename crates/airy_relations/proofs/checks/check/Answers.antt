@@ -11,4 +11,4 @@ pub returns-clause-closed : goal.returns-clause-closed
 returns-clause-closed c = λ e. closed_law (looked_up c.args.t.now) c.args.places c.soundness_fact.ensures.symmetric (sym c.check_all.ensures ∙ e)
 
 pub returns-clause-differs : goal.returns-clause-differs
-returns-clause-differs c = failure_law (looked_up c.args.t.now) c.args.places c.soundness_fact.ensures.symmetric c.requires.some _ c.check_all.ensures
+returns-clause-differs c = failure_law (looked_up c.args.t.now) c.args.places c.soundness_fact.ensures.symmetric _ c.check_all.ensures

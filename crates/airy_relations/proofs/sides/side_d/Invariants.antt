@@ -4,5 +4,5 @@ use Rattle.airy_relations.specs.Sides.{D, obtained_side, of_pair}
 use Rattle.airy_relations.specs.Steps.{added_all}
 use Rattle.airy_relations.proofs.sides.side_d.Given as goal
 
-abbrev pub invariant-loop-a : goal.invariant-loop-a
-invariant-loop-a l = added_all (Some l.total) (map (of_pair (looked_up l.t) l.j) (drop l.a-index l.row)) ≡ obtained_side (looked_up l.t) D l.i l.j 0 0
+abbrev pub invariant-loop-entry : goal.invariant-loop-entry
+invariant-loop-entry l = added_all (Some l.total) (map (of_pair (looked_up l.t) l.j) (drop l.entry-index l.row)) ≡ obtained_side (looked_up l.t) D l.i l.j 0 0

@@ -1,15 +1,14 @@
 use Rattle.std.proofs.Common.{◌≡◌, ◌<◌, ◌≤◌, rules, arith, length, refl}
-use Rattle.std.proofs.KnownBytes.{Appends-trans}
+use Rattle.std.proofs.KnownBytes.{Appends-trans, Appends-nil}
 use Rattle.std.proofs.lemmas.Result.{err_from_is_err_and}
 use Rattle.ask_seats.specs.Replies.{lines_text}
 use Rattle.airy_wait.specs.Waits.{told_reply}
 use Rattle.airy_wait.proofs.LineLemmas.{lines-cut, lines-done, lines-more}
 use Rattle.airy_wait.proofs.replies.write_replies.Goals as goal
-use Rattle.run_reports.proofs.RowLemmas.{nothing_taken}
 
 pub loop-k-init : goal.loop-k-init
 unfolding lines_text
-loop-k-init g c = record { written = λ all told e. nothing_taken (g.W.Sink.state c.args.out.now).taken; kept = refl }
+loop-k-init g c = record { written = λ all told e. Appends-nil (g.W.Sink.state c.args.out.now).taken; kept = refl }
 
 pub loop-k-preserved : goal.loop-k-preserved
 loop-k-preserved g c = record {

@@ -1,4 +1,4 @@
-use Rattle.airymore.specs.Brackets.{LeadsToBrackets}
+use Rattle.airymore.proofs.Words.{LeadsToBrackets}
 use Rattle.run_reports.proofs.TextLemmas.{read_ends, refusal_ends}
 use Rattle.airymore.proofs.brackets.brackets.Goals as goal
 

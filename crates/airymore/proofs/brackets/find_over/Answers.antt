@@ -1,7 +1,5 @@
 use Rattle.std.proofs.Common.{◌≡◌, ◌∷◌, ◌∙◌, ap, sym, subst, rules, None, IfSome}
-use Rattle.run_reports.proofs.Names.{looked_up}
-use Rattle.airymore.specs.Brackets.{first_over}
-use Rattle.airymore.specs.Places.{from, from_any, IsPlace}
+use Rattle.airymore.proofs.Words.{looked_up, first_over, from, from_any, IsPlace}
 use Rattle.airymore.proofs.BracketLemmas.{from_none, from_some, is_missing, is_there, over_end, over_here, over_later, shorter}
 use Rattle.airymore.proofs.PlaceLemmas.{head_of}
 use Rattle.airymore.proofs.brackets.find_over.Goals as goal

@@ -1,7 +1,5 @@
 use Rattle.std.proofs.Common.{◌≡◌, length, IfSome}
-use Rattle.run_reports.proofs.Names.{looked_up}
-use Rattle.airymore.specs.Brackets.{first_over}
-use Rattle.airymore.specs.Places.{from_any, places, IsPlace}
+use Rattle.airymore.proofs.Words.{looked_up, first_over, from_any, places, IsPlace}
 use Rattle.airymore.proofs.brackets.find_over.Given as goal
 
 abbrev pub invariant-loop-at : goal.invariant-loop-at

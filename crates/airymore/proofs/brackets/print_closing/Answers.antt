@@ -1,5 +1,5 @@
 use Rattle.std.proofs.Common.{refl}
-use Rattle.airy_closing.specs.Constants.{TellsClosing}
+use Rattle.airymore.proofs.Words.{TellsClosing}
 use Rattle.airymore.proofs.BracketLemmas.{closed_ends, fails_ends}
 use Rattle.airymore.proofs.brackets.print_closing.Goals as goal
 

@@ -1,7 +1,5 @@
 use Rattle.std.proofs.Common.{◌≡◌, ◌∙◌, sym, subst, Some, None}
-use Rattle.run_reports.proofs.Names.{looked_up, Ends}
-use Rattle.airymore.specs.Brackets.{first_over, found_report, numbers_report}
-use Rattle.airymore.specs.Places.{places}
+use Rattle.airymore.proofs.Words.{looked_up, Ends, first_over, found_report, numbers_report, places}
 use Rattle.airymore.proofs.brackets.print_obtained.Goals as goal
 
 pub returns-in-Some : goal.returns-in-Some

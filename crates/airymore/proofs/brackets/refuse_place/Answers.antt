@@ -1,6 +1,5 @@
 use Rattle.std.proofs.Common.{rules, ◌≡◌, subst, codes}
-use Rattle.run_reports.proofs.Names.{Ends, refusal}
-use Rattle.airymore.specs.Brackets.{place_text}
+use Rattle.airymore.proofs.Words.{Ends, refusal, place_text}
 use Rattle.airymore.proofs.brackets.refuse_place.Goals as goal
 
 pub returns : goal.returns

@@ -1,8 +1,6 @@
 use Rattle.std.proofs.Common.{codes}
-use Rattle.run_reports.proofs.Names.{looked_up}
+use Rattle.airymore.proofs.Words.{looked_up, numbers_text, places}
 use Rattle.run_reports.proofs.FormLemmas.{writes_then}
-use Rattle.airymore.specs.Brackets.{numbers_text}
-use Rattle.airymore.specs.Places.{places}
 use Rattle.airymore.proofs.brackets.write_closed.Goals as goal
 
 pub returns : goal.returns

@@ -1,13 +1,12 @@
 use Rattle.std.proofs.Common.{rules, ◌≡◌, ◌++◌, ◌∙◌, subst, sym, codes, IsTrue, false}
-use Rattle.run_reports.proofs.Names.{Writes, 0ℚ, fraction_text}
-use Rattle.run_reports.proofs.RowLemmas.{row-none}
-use Rattle.airymore.specs.Brackets.{place_text}
+use Rattle.airymore.proofs.Words.{Writes, 0ℚ, fraction_text, place_text}
 use Rattle.airymore.proofs.BracketLemmas.{text_of_zero, text_of_other}
 use Rattle.airymore.proofs.brackets.write_line.Goals as goal
+use Rattle.tensor_text.proofs.WriteLemmas.{writes_nothing}
 
 pub returns-then-is_zero : goal.returns-then-is_zero
 returns-then-is_zero g c =
-    rw (text_of_zero c.args.place c.args.number (c.is_zero.ensures.0 c.if-is_zero.true)) (row-none (g.W.Sink.state c.args.out.now) tt)
+    rw (text_of_zero c.args.place c.args.number (c.is_zero.ensures.0 c.if-is_zero.true)) (writes_nothing (g.W.Sink.state c.args.out.now) tt)
 
 pub returns : goal.returns
 returns g c =

@@ -1,9 +1,7 @@
 use Rattle.std.proofs.Common.{◌≡◌, ◌∷◌, ◌++◌, ◌∙◌, ap, sym, subst, rules, None, IfSome}
-use Rattle.run_reports.proofs.Names.{looked_up}
+use Rattle.airymore.proofs.Words.{looked_up, first_over, numbers_text, from, from_any, IsPlace}
 use Rattle.std.proofs.KnownBytes.{Appends-trans}
 use Rattle.std.proofs.lemmas.Result.{err_from_is_err_and}
-use Rattle.airymore.specs.Brackets.{first_over, numbers_text}
-use Rattle.airymore.specs.Places.{from, from_any, IsPlace}
 use Rattle.airymore.proofs.BracketLemmas.{from_none, from_some, over_none, shorter, text-more, text_cut, text_done, text_end}
 use Rattle.airymore.proofs.PlaceLemmas.{head_of}
 use Rattle.airymore.proofs.brackets.write_numbers.Goals as goal

@@ -1,8 +1,5 @@
 use Rattle.std.proofs.Common.{◌≡◌, ℕ, List, ◌++◌, length, IfSome, None}
-use Rattle.run_reports.proofs.Names.{looked_up}
-use Rattle.std.specs.Io.KnownBytes.{Appends}
-use Rattle.airymore.specs.Brackets.{first_over, numbers_text}
-use Rattle.airymore.specs.Places.{from_any, places, IsPlace}
+use Rattle.airymore.proofs.Words.{looked_up, Appends, first_over, numbers_text, from_any, places, IsPlace}
 use Rattle.airymore.proofs.brackets.write_numbers.Given as goal
 
 abbrev pub invariant-loop-at : goal.invariant-loop-at

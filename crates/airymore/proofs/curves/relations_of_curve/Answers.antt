@@ -1,4 +1,4 @@
-use Rattle.airymore.specs.Curves.{curve_below}
+use Rattle.airymore.proofs.Words.{curve_below}
 use Rattle.airymore.proofs.CurveRelationLemmas.{RelationLaws, stored_places, checked_ends, unmade_relations_end}
 use Rattle.airymore.proofs.curves.relations_of_curve.Goals as goal
 

@@ -1,6 +1,5 @@
 use Rattle.std.proofs.Common.{◌≡◌, rules, false}
-use Rattle.run_reports.proofs.Names.{is_bound}
-use Rattle.airymore.specs.Curves.{curve_tensors}
+use Rattle.airymore.proofs.Words.{is_bound, curve_tensors}
 use Rattle.airymore.proofs.CurveLemmas.{CurveLaws, beyond_ends, made_ends, unmade_ends}
 use Rattle.airymore.proofs.curves.table_of_curve.Goals as goal
 

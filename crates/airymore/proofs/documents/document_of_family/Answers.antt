@@ -1,9 +1,6 @@
-use Rattle.std.proofs.Common.{◌≡◌, rules, inl, inr, true, false, refl}
-use Rattle.run_reports.proofs.Names.{is_bound}
-use Rattle.airy_json.specs.Reading.{named}
-use Rattle.run_reports.proofs.TableHeadline.{family_sound}
-use Rattle.airymore.specs.Documents.{structure_of_kind}
-use Rattle.airymore.proofs.DocumentLemmas.{document_bound, family_ends, kind_sound}
+use Rattle.std.proofs.Common.{◌≡◌, rules, inl, inr, false}
+use Rattle.airymore.proofs.Words.{is_bound, named, family_sound, structure_of_kind}
+use Rattle.airymore.proofs.DocumentLemmas.{document_bound, family_ends}
 use Rattle.airymore.proofs.documents.document_of_family.Goals as goal
 
 pub returns-then-is_bound : goal.returns-then-is_bound

@@ -1,5 +1,4 @@
-use Rattle.run_reports.proofs.TextLemmas.{bounded_ends, input_ends}
-use Rattle.airymore.specs.Documents.{LeadsToTextDocument}
+use Rattle.airymore.proofs.Words.{bounded_ends, input_ends, LeadsToTextDocument}
 use Rattle.airymore.proofs.documents.document_of_text.Goals as goal
 
 pub returns-in-Ok : goal.returns-in-Ok

@@ -1,15 +1,12 @@
-use Rattle.std.proofs.Common.{subst, sym, ap, ◌∙◌, List, ℕ}
-use Rattle.run_reports.proofs.Names.{EndsOrWants}
-use Rattle.airy_json.specs.Reading.{named}
-use Rattle.airymore.specs.Documents.{structure_of_kind, stored_document}
-use Rattle.airymore.proofs.DocumentLemmas.{stood_document, document_error}
+use Rattle.airymore.proofs.DocumentLemmas.{stood_document, formed_document, document_error}
+use Rattle.airymore.proofs.Words.{EndsOrWants, named, structure_of_kind, stored_document}
 use Rattle.airymore.proofs.documents.made_document.Goals as goal
 
 pub returns-in-Ok : goal.returns-in-Ok
 unfolding structure_of_kind
 returns-in-Ok g c =
     rw (stood_document (named c.args.family) c.in-Ok.tensors c.args.bound c.planned_once.ensures c.below_dim.ensures c.same_tables.ensures c.requires.within c.in-Ok.ensures.made c.in-Ok.ensures.planned)
-    (subst (λ (k : List ℕ). EndsOrWants (stored_document k c.in-Ok.tensors c.args.bound) (g.W.Sink.state c.args.out.now) (g.W.Sink.state c.write_stored.new.out) c.write_stored.result) c.name_of.ensures c.write_stored.ensures)
+    (rw (← c.name_of.ensures, ← formed_document c.name_of.result.now c.in-Ok.tensors c.args.bound) c.print_formed.ensures)
 
 pub returns-in-Err : goal.returns-in-Err
 unfolding structure_of_kind

@@ -1,6 +1,5 @@
 use Rattle.std.proofs.Common.{◌∙◌, refl, ap, subst}
-use Rattle.run_reports.proofs.Names.{Close, looked_up, verdict}
-use Rattle.run_reports.proofs.TextLemmas.{are_closed}
+use Rattle.airymore.proofs.Words.{Close, looked_up, verdict, are_closed}
 use Rattle.airymore.proofs.DocumentLemmas.{closed_document, fails_document}
 use Rattle.airymore.proofs.documents.write_closed.Goals as goal
 

@@ -1,5 +1,5 @@
 use Rattle.std.proofs.Common.{arith}
-use Rattle.airymore.specs.Places.{from_any, place}
+use Rattle.airymore.proofs.Words.{from_any, place}
 use Rattle.airymore.proofs.PlaceLemmas.{first_none, first_of}
 use Rattle.airymore.proofs.places.first_place.Goals as goal
 

@@ -1,5 +1,5 @@
 use Rattle.std.proofs.Common.{◌≡◌, suc, ◌+◌, arith}
-use Rattle.airymore.specs.Places.{from_any, place}
+use Rattle.airymore.proofs.Words.{from_any, place}
 use Rattle.airymore.proofs.PlaceLemmas.{next_a, next_i, next_j, next_none}
 use Rattle.airymore.proofs.places.next_place.Goals as goal
 

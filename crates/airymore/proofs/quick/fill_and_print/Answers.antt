@@ -1,6 +1,5 @@
 use Rattle.std.proofs.Common.{◌∙◌, ap, inl, subst, sym}
-use Rattle.run_reports.proofs.Names.{Close, Planning, tensors_of, full_table, Ends}
-use Rattle.airymore.specs.Quick.{plan_quick}
+use Rattle.airymore.proofs.Words.{Close, Planning, tensors_of, full_table, Ends, plan_quick}
 use Rattle.airymore.proofs.quick.fill_and_print.Goals as goal
 
 pub print_agreed-requires-clause-close : goal.print_agreed-requires-clause-close

@@ -1,6 +1,5 @@
 use Rattle.std.proofs.Common.{◌∙◌, ap, length, List, Option}
-use Rattle.run_reports.proofs.Names.{Outcome}
-use Rattle.run_reports.proofs.ReportLemmas.{full-length}
+use Rattle.airymore.proofs.Words.{Outcome, full-length}
 use Rattle.airymore.proofs.QuickLemmas.{found_value, found_whole}
 use Rattle.airymore.proofs.quick.print_agreed.Goals as goal
 

@@ -1,6 +1,5 @@
 use Rattle.std.proofs.Common.{◌∙◌, refl, ap, subst}
-use Rattle.run_reports.proofs.Names.{Close, looked_up, verdict}
-use Rattle.run_reports.proofs.TextLemmas.{are_closed}
+use Rattle.airymore.proofs.Words.{Close, looked_up, verdict, are_closed}
 use Rattle.airymore.proofs.QuickLemmas.{quick_ends, quick_fails}
 use Rattle.airymore.proofs.quick.print_closed.Goals as goal
 

@@ -1,6 +1,5 @@
 use Rattle.std.proofs.Common.{subst, sym}
-use Rattle.run_reports.proofs.Names.{Close, Planning, tensors_of}
-use Rattle.run_reports.proofs.ReportLemmas.{ends_by}
+use Rattle.airymore.proofs.Words.{Close, Planning, tensors_of, ends_by}
 use Rattle.airymore.proofs.QuickLemmas.{quick_of_plan, quick_of_cause}
 use Rattle.airymore.proofs.quick.print_planned.Goals as goal
 

@@ -1,5 +1,4 @@
-use Rattle.run_reports.proofs.TextLemmas.{bounded_ends, input_ends}
-use Rattle.airymore.specs.Quick.{LeadsToQuick}
+use Rattle.airymore.proofs.Words.{bounded_ends, input_ends, LeadsToQuick}
 use Rattle.airymore.proofs.quick.quick.Goals as goal
 
 pub returns-in-Ok : goal.returns-in-Ok

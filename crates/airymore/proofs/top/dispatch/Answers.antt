@@ -1,16 +1,8 @@
-use Rattle.std.proofs.Common.{◌≡◌, arith, refl, sym, ap, ◌∙◌, ◌+◌, subst}
-use Rattle.run_reports.proofs.Names.{word_refused, EndsBy}
+use Rattle.std.proofs.Common.{arith, refl, ◌+◌, subst}
+use Rattle.airymore.proofs.Words.{word_refused, EndsBy, named, answers_by, answers_from_ends, answers_of_text, answers_with_bound, answers_without_text, of_kind, other_of, AsksForNoText, Leads, LeadsToBrackets, LeadsToCurve, LeadsToCurveRelations, LeadsToTextDocument, LeadsToQuick}
 use Rattle.command_words.specs.declared.asked.Kind.TheVariants as kinds
 use Rattle.command_words.specs.Words.{Named, Text}
-use Rattle.airy_json.specs.Reading.{named}
 use Rattle.more_words.specs.MoreWords.{Brackets, Curve, CurveRelations, Json, Quick, Refused, Verify}
-use Rattle.run_reports.proofs.AnswerLemmas.{answers_by, answers_from_ends, answers_of_text, answers_with_bound, answers_without_text, of_kind}
-use Rattle.run_reports.proofs.JobLemmas.{other_of}
-use Rattle.airymore.specs.Run.{AsksForNoText, Leads}
-use Rattle.airymore.specs.Brackets.{LeadsToBrackets}
-use Rattle.airymore.specs.Curves.{LeadsToCurve, LeadsToCurveRelations}
-use Rattle.airymore.specs.Documents.{LeadsToTextDocument}
-use Rattle.airymore.specs.Quick.{LeadsToQuick}
 use Rattle.airymore.proofs.DocumentLemmas.{json_said, text_document_said}
 use Rattle.airymore.proofs.VerifyLemmas.{answers_of_document}
 use Rattle.airymore.proofs.RunLemmas.{brackets_said, curve_said, curve_relations_said, quick_said}

@@ -1,5 +1,4 @@
-use Rattle.run_reports.proofs.CauseLemmas.{causes}
-use Rattle.run_reports.proofs.JobLemmas.{one_complete}
+use Rattle.airymore.proofs.Words.{causes, one_complete}
 use Rattle.airymore.proofs.StatusLaw.{judged_more}
 use Rattle.airymore.proofs.top.run_more.Goals as goal
 

@@ -1,5 +1,5 @@
 use Rattle.std.proofs.Common.{◌∙◌, subst, List, ℕ, codes}
-use Rattle.run_reports.proofs.Names.{Ends, refusal}
+use Rattle.airymore.proofs.Words.{Ends, refusal}
 use Rattle.airymore.proofs.verify.refuse_bound_of.Goals as goal
 
 pub returns : goal.returns

@@ -1,4 +1,4 @@
-use Rattle.airymore.specs.Verify.{error_report}
+use Rattle.airymore.proofs.Words.{error_report}
 use Rattle.airymore.proofs.verify.refuse_document.Goals as goal
 
 pub returns-in-Make : goal.returns-in-Make

@@ -1,15 +1,10 @@
-use Rattle.std.proofs.Common.{◌∙◌, ap, length, subst, sym, List}
-use Rattle.run_reports.proofs.Names.{ℚ, AreSound, tensors_of, Ends}
-use Rattle.airy_json.specs.Verifying.{verified}
-use Rattle.airymore.specs.Verify.{verified_report}
-use Rattle.airymore.proofs.VerifyLemmas.{VerifyLaws, given_ends, given_long, refusal_ends}
+use Rattle.std.proofs.Common.{◌∙◌, ap, length, subst, List}
+use Rattle.airymore.proofs.VerifyLemmas.{given_ends, refusal_ends}
+use Rattle.airymore.proofs.Words.{ℚ, AreSound, tensors_of, Ends, verified, verified_report}
 use Rattle.airymore.proofs.verify.verify.Goals as goal
 
 pub verify_given-requires : goal.verify_given-requires
-verify_given-requires g c =
-    ap (λ (vs : List ℚ). length vs) c.as_slice.ensures.value
-    ∙ given_long (record { planned = c.planned_once.ensures; below = c.below_dim.ensures; unique = c.job_uniqueness.ensures; job = c.verified_job.ensures; same = c.same_verified.ensures })
-    c.in-Ok.given.plan c.in-Ok.given.values.items c.in-Ok.ensures.read.bytes (subst AreSound c.tensors.ensures c.soundness_fact.ensures) c.in-Ok.ensures.read.tells.said
+verify_given-requires g c = ap (λ (vs : List ℚ). length vs) c.as_slice.ensures.value ∙ c.in-Ok.ensures.read.tells.said.one_each
 
 pub returns-in-Ok : goal.returns-in-Ok
 returns-in-Ok g c =

@@ -1,6 +1,4 @@
-use Rattle.std.proofs.Common.{sym, ap, subst, ◌∙◌}
-use Rattle.run_reports.proofs.Names.{Ends}
-use Rattle.airymore.specs.Verify.{verified_report}
+use Rattle.airymore.proofs.Words.{verified_report}
 use Rattle.airymore.proofs.verify.verify_given.Goals as goal
 
 pub returns-in-Solution : goal.returns-in-Solution

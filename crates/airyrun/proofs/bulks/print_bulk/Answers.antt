@@ -6,7 +6,7 @@ use Rattle.airyrun.proofs.bulks.print_bulk.Goals as goal
 
 pub returns-in-Closed-clause-ends : goal.returns-in-Closed-clause-ends
 returns-in-Closed-clause-ends g c =
-    summary_ends c.args.tensors c.args.bound _ _ _ (c.in-Closed.ensures.found ∙ ap (verdict (looked_up c.args.tensors)) c.dim.ensures) c.print_stored.ensures
+    summary_ends c.args.tensors c.args.bound _ _ _ (c.in-Closed.ensures.found ∙ ap (verdict (looked_up c.args.tensors)) c.dim.ensures) c.print_formed.ensures
 
 pub returns-in_default : goal.returns-in_default
 returns-in_default g c = record {

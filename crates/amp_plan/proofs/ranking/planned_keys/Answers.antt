@@ -1,7 +1,7 @@
 use Rattle.std.proofs.Common.{arith, sym, ◌∙◌, ◌≡◌, ap, ap₂, ◌+◌, ◌-◌, ◌<◌, length, ◌++◌, []}
 use Rattle.amp_plan.proofs.Words.{each, count_from, planned, looked_up, tensors_of, keys_of, level_keys, Tells}
-use Rattle.amp_plan.proofs.ListingLemmas.{append-none}
-use Rattle.amp_plan.proofs.LevelLemmas.{each-more, each-end, each-too_long}
+use Rattle.index_lists.proofs.ListingLemmas.{append-none}
+use Rattle.index_lists.proofs.LevelLemmas.{each-more, each-end, each-too_long}
 use Rattle.amp_plan.proofs.GrowLemmas.{planned-split}
 use Rattle.amp_plan.proofs.LimitLemmas.{level_there, limit-cells, limit-memory}
 use Rattle.amp_plan.proofs.ranking.planned_keys.Goals as goal

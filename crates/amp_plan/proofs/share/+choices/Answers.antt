@@ -1,6 +1,7 @@
 use Rattle.std.proofs.Common.{arith, rules, sym, ◌∙◌, ◌+◌}
 use Rattle.amp_plan.proofs.Words.{more_of, CanGoOn}
-use Rattle.amp_plan.proofs.WalkLemmas.{takes-none, takes-same, taken-none, taken-more, taken-all, allowed-next, allowed-same, count-none, count-next, count-over}
+use Rattle.amp_plan.proofs.WalkLemmas.{takes-none, takes-same, taken-none, taken-more, taken-all, allowed-next, allowed-same}
+use Rattle.index_lists.proofs.SplitLemmas.{count-none, count-next, count-over}
 use Rattle.amp_plan.proofs.ChoiceLemmas.{choices-more}
 use Rattle.amp_plan.proofs.ReachLemmas.{passed_over}
 use Rattle.amp_plan.proofs.StageLemmas.{chosen-light, count_short, gain_enough, loss_enough, at_first, at_next, at_light, at_ways, chosen_next}

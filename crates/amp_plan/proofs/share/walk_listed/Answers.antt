@@ -1,6 +1,6 @@
 use Rattle.std.proofs.Common.{arith, [], sym, ap, subst, ◌∙◌, refl, rules}
 use Rattle.amp_plan.proofs.Words.{Split, splits, Takes, choice_part, of_share, IsChosen, CanGoOn, genus_part}
-use Rattle.amp_plan.specs.SplitLists.{first_with}
+use Rattle.index_lists.specs.SplitLists.{first_with}
 use Rattle.amp_plan.proofs.WalkLemmas.{taken-none}
 use Rattle.amp_plan.proofs.ChainWalkLemmas.{all_stand, meets, met-goes_on, met-walked, met-shorter, walked-all, walked-within}
 use Rattle.amp_plan.proofs.share.walk_listed.Goals as goal

@@ -1,7 +1,7 @@
 use Rattle.std.proofs.Common.{rules, sym, ap, subst, ◌∙◌, ◌≡◌, pos}
 use Rattle.amp_plan.proofs.Words.{Split, splits, Takes, no_split, choice_part, of_share, IsChosen, CanGoOn, all_listed, Chosen, Share}
 use Rattle.airy_math.specs.Splits.{runs}
-use Rattle.amp_plan.specs.Measures.{gain, loss}
+use Rattle.index_lists.specs.Measures.{gain, loss}
 use Rattle.amp_plan.proofs.ChoiceLemmas.{choices-all}
 use Rattle.amp_plan.proofs.ReachLemmas.{passed_over}
 use Rattle.amp_plan.proofs.StartLemmas.{chosen_first, begun}

@@ -1,6 +1,7 @@
 use Rattle.std.proofs.Common.{arith, rules, ◌+◌}
 use Rattle.amp_plan.specs.Walk.{product_part}
-use Rattle.amp_plan.proofs.WalkLemmas.{taken-none, taken-more, taken-all, allowed-next, count-none, count-next, count-over}
+use Rattle.amp_plan.proofs.WalkLemmas.{taken-none, taken-more, taken-all, allowed-next}
+use Rattle.index_lists.proofs.SplitLemmas.{count-none, count-next, count-over}
 use Rattle.amp_plan.proofs.walk.walk_products.Goals as goal
 
 pub loop-k-init : goal.loop-k-init

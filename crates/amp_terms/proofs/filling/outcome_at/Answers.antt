@@ -10,7 +10,7 @@ use Rattle.amp_terms.specs.Pivots.{pivot_outcome}
 use Rattle.amp_terms.specs.Tables.{shown_in, IsFilled}
 use Rattle.amp_terms.proofs.NamedLemmas.{named_below, least_stands, rank_planned}
 use Rattle.amp_terms.proofs.filling.outcome_at.Goals as goal
-use Rattle.amp_plan.proofs.ListWalkLemmas.{head-index}
+use Rattle.index_lists.proofs.ListWalkLemmas.{head-index}
 
 pub pivot_value-requires-clause-planned : goal.pivot_value-requires-clause-planned
 pivot_value-requires-clause-planned c =

@@ -1,6 +1,5 @@
-use Rattle.std.proofs.Common.{◌≡◌, sym, ap, ◌∙◌}
 use Rattle.sparse_tensor.specs.Entries.{looked_up}
-use Rattle.ask_seats.proofs.Names.{tensors_of, keys_of, key_at, letter_power, reply_of, outcome_reply}
+use Rattle.ask_seats.proofs.Names.{◌≡◌, sym, ap, ◌∙◌, tensors_of, keys_of, key_at, letter_power, reply_of, outcome_reply}
 use Rattle.ask_seats.specs.Replies.{Value, Blocked}
 use Rattle.ask_seats.proofs.asker.tell.Goals as goal
 

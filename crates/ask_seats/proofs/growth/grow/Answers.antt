@@ -1,6 +1,5 @@
-use Rattle.std.proofs.Common.{◌≡◌, ℕ, ◌<◌, ◌≤◌, Bool, true, false, arith, refl, sym, ap, ap₂, ◌∙◌, subst, le-leb, cond, ◌&&◌, Option, Some, None, leb, List}
 use Rattle.amp_plan.specs.Limits.{Limit, Within, PassesBound, PassesCells, PassesNeeds, past, Tells}
-use Rattle.ask_seats.proofs.Names.{Key, Tensors, limit, limit_of, Planning, tensors_of, growth, bound_after, growth_reply, up_to}
+use Rattle.ask_seats.proofs.Names.{◌≡◌, ℕ, ◌<◌, ◌≤◌, Bool, true, false, arith, refl, sym, ap, ap₂, ◌∙◌, subst, le-leb, cond, ◌&&◌, Option, Some, None, leb, List, Key, Tensors, limit, limit_of, Planning, tensors_of, growth, bound_after, growth_reply, up_to}
 use Rattle.ask_seats.proofs.growth.grow.Goals as goal
 
 not_past : (keys : List Key) (o : Option ℕ) → past keys o ≡ PassesBound → ⊥

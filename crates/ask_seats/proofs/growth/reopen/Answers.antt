@@ -1,6 +1,5 @@
-use Rattle.std.proofs.Common.{◌≡◌, ℕ, ◌<◌, ◌≤◌, ◌+◌, true, arith, sym, ap, ◌∙◌, subst}
 use Rattle.cell_words.specs.Countdown.{by_sight}
-use Rattle.ask_seats.proofs.Names.{has, limit, tensors_of, CanResume, bound_after}
+use Rattle.ask_seats.proofs.Names.{◌≡◌, ℕ, ◌<◌, ◌≤◌, ◌+◌, true, arith, sym, ap, ◌∙◌, subst, has, limit, tensors_of, CanResume, bound_after}
 use Rattle.ask_seats.proofs.FrontLemmas.{leads-begun}
 use Rattle.ask_seats.proofs.ReplyLemmas.{grows-up}
 use Rattle.ask_seats.proofs.growth.reopen.Goals as goal

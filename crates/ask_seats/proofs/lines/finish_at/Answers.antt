@@ -1,5 +1,4 @@
-use Rattle.std.proofs.Common.{◌≡◌, ℕ, ◌<◌, ◌+◌, [], ◌∷◌, ◌++◌, List, take, length, get_or, arith, refl, sym, ap, ◌∙◌, subst}
-use Rattle.ask_seats.proofs.Names.{take_more, AreAsks, Line, Ask, Finish, Grow, IsPart}
+use Rattle.ask_seats.proofs.Names.{◌≡◌, ℕ, ◌<◌, ◌+◌, [], ◌∷◌, ◌++◌, List, take, length, get_or, arith, refl, sym, ap, ◌∙◌, subst, take_more, AreAsks, Line, Ask, Finish, Grow, IsPart}
 use Rattle.ask_seats.proofs.SessionLemmas.{asks-snoc, part-at}
 use Rattle.ask_seats.proofs.lines.finish_at.Goals as goal
 

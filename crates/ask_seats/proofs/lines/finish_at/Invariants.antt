@@ -1,5 +1,4 @@
-use Rattle.std.proofs.Common.{take}
-use Rattle.ask_seats.proofs.Names.{AreAsks}
+use Rattle.ask_seats.proofs.Names.{take, AreAsks}
 use Rattle.ask_seats.proofs.lines.finish_at.Given as goal
 
 abbrev pub invariant-loop-at : goal.invariant-loop-at

@@ -1,5 +1,4 @@
-use Rattle.std.proofs.Common.{◌≡◌, ℕ, ◌<◌, ◌+◌, [], ◌∷◌, ◌++◌, take, length, arith, sym, ap, ◌∙◌, subst}
-use Rattle.ask_seats.proofs.Names.{take_more}
+use Rattle.ask_seats.proofs.Names.{◌≡◌, ℕ, ◌<◌, ◌+◌, [], ◌∷◌, ◌++◌, take, length, arith, sym, ap, ◌∙◌, subst, take_more}
 use Rattle.ask_seats.proofs.SessionLemmas.{NoGrow, no-grow-snoc, is-part}
 use Rattle.ask_seats.proofs.lines.part_end.Goals as goal
 

@@ -1,5 +1,4 @@
-use Rattle.std.proofs.Common.{◌≡◌, ◌⊎◌, inl, inr, ℕ, ◌<◌, ◌≤◌, ◌+◌, [], ◌∷◌, ◌++◌, List, take, length, get_or, arith, sym, ap, ◌∙◌}
-use Rattle.ask_seats.proofs.Names.{take_more, Line, Finish, replies_due}
+use Rattle.ask_seats.proofs.Names.{◌≡◌, ◌⊎◌, inl, inr, ℕ, ◌<◌, ◌≤◌, ◌+◌, [], ◌∷◌, ◌++◌, List, take, length, get_or, arith, sym, ap, ◌∙◌, take_more, Line, Finish, replies_due}
 use Rattle.ask_seats.proofs.SessionLemmas.{due-snoc}
 use Rattle.ask_seats.proofs.lines.replies_to.Goals as goal
 

@@ -1,5 +1,4 @@
-use Rattle.std.proofs.Common.{◌≡◌, ◌≤◌, take}
-use Rattle.ask_seats.proofs.Names.{replies_due}
+use Rattle.ask_seats.proofs.Names.{◌≡◌, ◌≤◌, take, replies_due}
 use Rattle.ask_seats.proofs.lines.replies_to.Given as goal
 
 abbrev pub invariant-loop-line : goal.invariant-loop-line

@@ -1,8 +1,7 @@
 use Rattle.cell_words.proofs.DealLemmas.{whole}
-use Rattle.std.proofs.Common.{◌≡◌, ℕ, ◌<◌, ◌++◌, ◌∷◌, [], length, Some, None, cond, sym, ap, ◌∙◌, subst}
 use Rattle.cell_words.specs.Deals.{receipts_of}
 use Rattle.fill_crew.proofs.CrewLemmas.{full_is, last_idle, last_knows, last_again}
-use Rattle.ask_seats.proofs.Names.{has, AreAll, cells, outcome_at, Leads}
+use Rattle.ask_seats.proofs.Names.{◌≡◌, ℕ, ◌<◌, ◌++◌, ◌∷◌, [], length, Some, None, cond, sym, ap, ◌∙◌, subst, has, AreAll, cells, outcome_at, Leads}
 use Rattle.ask_seats.proofs.FrontLemmas.{leads-swept, leads-again, leaves-first}
 use Rattle.ask_seats.proofs.SeatLemmas.{same_back, same_done}
 use Rattle.ask_seats.proofs.parts.answer_behind.Goals as goal

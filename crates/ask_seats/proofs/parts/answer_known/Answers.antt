@@ -1,6 +1,5 @@
-use Rattle.std.proofs.Common.{◌≡◌, ℕ, ◌<◌, sym, subst}
 use Rattle.std.proofs.lemmas.Result.{on_ok_weaker, on_err_weaker}
-use Rattle.ask_seats.proofs.Names.{cells, Knows, AnyOf, Stands, Wrote, Broke}
+use Rattle.ask_seats.proofs.Names.{◌≡◌, ℕ, ◌<◌, sym, subst, cells, Knows, AnyOf, Stands, Wrote, Broke}
 use Rattle.ask_seats.proofs.SpeakLemmas.{stands-map}
 use Rattle.ask_seats.proofs.SessionLemmas.{wrote-map}
 use Rattle.ask_seats.proofs.parts.answer_known.Goals as goal

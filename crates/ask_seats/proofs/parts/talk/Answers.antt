@@ -1,8 +1,7 @@
-use Rattle.std.proofs.Common.{◌≡◌, ℕ, ◌<◌, ◌≤◌, ◌+◌, ◌-◌, [], ◌∷◌, ◌++◌, take, drop, length, Some, true, true≢false, false, arith, refl, sym, ap, ◌∙◌, subst, take-append-drop, take_all, length-drop}
 use Rattle.airy_io.proofs.Prefixes.{on_err}
 use Rattle.fill_crew.specs.Crews.{IsIdle}
 use Rattle.fill_crew.proofs.CrewLemmas.{rest_idle, last_idle}
-use Rattle.ask_seats.proofs.Names.{Planning, tensors_of, has, AreAll, carried_of, Leads, Knows, Stage, finish, AreAsks, Rises, ends_finished, AnyOf, Carried, Stands, Wrote, Broke, stage_after, Finish}
+use Rattle.ask_seats.proofs.Names.{◌≡◌, ℕ, ◌<◌, ◌≤◌, ◌+◌, ◌-◌, [], ◌∷◌, ◌++◌, take, drop, length, Some, true, true≢false, false, arith, refl, sym, ap, ◌∙◌, subst, take-append-drop, take_all, length-drop, Planning, tensors_of, has, AreAll, carried_of, Leads, Knows, Stage, finish, AreAsks, Rises, ends_finished, AnyOf, Carried, Stands, Wrote, Broke, stage_after, Finish}
 use Rattle.ask_seats.proofs.FrontLemmas.{leads-asked, leaves-first}
 use Rattle.ask_seats.proofs.SeatLemmas.{joined_again, last_has, last_known, full_partial, full_carries}
 use Rattle.ask_seats.proofs.SpeakLemmas.{stands-map}

@@ -1,6 +1,5 @@
-use Rattle.std.proofs.Common.{◌≡◌, ℕ, ◌<◌, ◌≤◌, ◌+◌, Bool, List, [], ◌∷◌, ◌++◌, take, drop, length, get_or, Option, arith, refl, sym, ap, ◌∙◌, subst, rules, take-append-drop, take_all}
 use Rattle.airy_io.proofs.Prefixes.{on_err}
-use Rattle.ask_seats.proofs.Names.{drop_more, take_more, Appends, AppendsPrefix, ListsPlanned, Planning, tensors_of, AreAsks, Stands, Wrote, Broke, Line}
+use Rattle.ask_seats.proofs.Names.{◌≡◌, ℕ, ◌<◌, ◌≤◌, ◌+◌, Bool, List, [], ◌∷◌, ◌++◌, take, drop, length, get_or, Option, arith, refl, sym, ap, ◌∙◌, subst, rules, take-append-drop, take_all, drop_more, take_more, Appends, AppendsPrefix, ListsPlanned, Planning, tensors_of, AreAsks, Stands, Wrote, Broke, Line}
 use Rattle.ask_seats.proofs.TalkLemmas.{asks-at, asks-behind, key_asked, starts, goes-on, breaks-off}
 use Rattle.ask_seats.proofs.replies.answer_all.Goals as goal
 

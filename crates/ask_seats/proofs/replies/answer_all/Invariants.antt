@@ -1,5 +1,4 @@
-use Rattle.std.proofs.Common.{◌≡◌, ◌≤◌, ℕ, take}
-use Rattle.ask_seats.proofs.Names.{Stage, Stands, Wrote}
+use Rattle.ask_seats.proofs.Names.{◌≡◌, ◌≤◌, ℕ, take, Stage, Stands, Wrote}
 use Rattle.ask_seats.proofs.replies.answer_all.Given as goal
 
 abbrev pub invariant-loop-line : goal.invariant-loop-line

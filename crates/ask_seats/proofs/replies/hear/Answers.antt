@@ -1,5 +1,4 @@
-use Rattle.std.proofs.Common.{◌≡◌, ℕ, Bool, true, false, Option, refl, sym, ap, ◌∙◌, subst, rules, IsTrue, ◌<◌}
-use Rattle.ask_seats.proofs.Names.{Planning, tensors_of, place_in, Place, Key, cells, outcome_at, Reaches, Outcome, Reply, reply_of, told, told_at, outcome_reply, place_at, euler_of, Hears, told_of, holds_back}
+use Rattle.ask_seats.proofs.Names.{◌≡◌, ℕ, Bool, true, false, Option, refl, sym, ap, ◌∙◌, subst, rules, IsTrue, ◌<◌, Planning, tensors_of, place_in, Place, Key, cells, outcome_at, Reaches, Outcome, Reply, reply_of, told, told_at, outcome_reply, place_at, euler_of, Hears, told_of, holds_back}
 use Rattle.ask_seats.specs.Replies.{NotYet}
 use Rattle.ask_seats.specs.Asks.{AnswersAt, Looks}
 use Rattle.ask_seats.specs.Talks.{tells, misses, waits}

@@ -1,6 +1,5 @@
-use Rattle.std.proofs.Common.{◌≡◌, ◌⊎◌, inl, inr, ℕ, ◌<◌, ◌≤◌, ◌+◌, ◌-◌, [], ◌∷◌, ◌++◌, List, Option, true, false, take, drop, length, get_or, arith, sym, ap, ◌∙◌, subst, take-append-drop, take_all, length-drop, get_or-drop}
 use Rattle.cell_words.proofs.ResumeLemmas.{has_carried}
-use Rattle.ask_seats.proofs.Names.{drop_more, Rose, limit, has, Planning, tensors_of, full_table, IsPartial, CanResume, carried_of, bound_after, CutShort, FinishesOnce, ends_finished, session_of, Carried, FallsSilent, GoesOn, IsPart, Paused, Speaks, growth_reply, up_to, Line, Grow, KeepsCarried}
+use Rattle.ask_seats.proofs.Names.{◌≡◌, ◌⊎◌, inl, inr, ℕ, ◌<◌, ◌≤◌, ◌+◌, ◌-◌, [], ◌∷◌, ◌++◌, List, Option, true, false, take, drop, length, get_or, arith, sym, ap, ◌∙◌, subst, take-append-drop, take_all, length-drop, get_or-drop, drop_more, Rose, limit, has, Planning, tensors_of, full_table, IsPartial, CanResume, carried_of, bound_after, CutShort, FinishesOnce, ends_finished, session_of, Carried, FallsSilent, GoesOn, IsPart, Paused, Speaks, growth_reply, up_to, Line, Grow, KeepsCarried}
 use Rattle.ask_seats.proofs.FrontLemmas.{keeps-grown}
 use Rattle.ask_seats.proofs.ReplyLemmas.{grows-up}
 use Rattle.ask_seats.proofs.SessionLemmas.{goes-above, goes-once, goes-next, next-lines, all-lines, ends-grow, stops-at, paused-next, cut-next, spoken-last, bound-last}

@@ -1,5 +1,4 @@
-use Rattle.std.proofs.Common.{◌≡◌, ◌-◌, ℕ, List, Option, take, length}
-use Rattle.ask_seats.proofs.Names.{Planning, KeepsCarried, GoesOn, IsLeft, Paused}
+use Rattle.ask_seats.proofs.Names.{◌≡◌, ◌-◌, ℕ, List, Option, take, length, Planning, KeepsCarried, GoesOn, IsLeft, Paused}
 use Rattle.ask_seats.proofs.sessions.go_on.Given as goal
 
 abbrev pub invariant-loop-at : goal.invariant-loop-at

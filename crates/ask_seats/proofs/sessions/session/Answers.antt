@@ -1,6 +1,5 @@
-use Rattle.std.proofs.Common.{◌≡◌, ℕ, ◌<◌, ◌≤◌, ◌+◌, [], ◌++◌, List, Option, true, false, true≢false, take, drop, length, arith, refl, sym, ap, ◌∙◌, subst, take-append-drop, Result, Ok, Err, IfOk, IfErr, OnOk, None}
 use Rattle.std.proofs.lemmas.Result.{IfOk-weaker, IfErr-weaker, on_ok_weaker}
-use Rattle.ask_seats.proofs.Names.{Taking, has, Planning, tensors_of, full_table, IsPartial, CanResume, carried_of, start, CutShort, Rises, session_of, Closed, LeavesFirst, KeepsCarried, Carried, GoesOn, IsPart, Paused, Line}
+use Rattle.ask_seats.proofs.Names.{◌≡◌, ℕ, ◌<◌, ◌≤◌, ◌+◌, [], ◌++◌, List, Option, true, false, true≢false, take, drop, length, arith, refl, sym, ap, ◌∙◌, subst, take-append-drop, Result, Ok, Err, IfOk, IfErr, OnOk, None, Taking, has, Planning, tensors_of, full_table, IsPartial, CanResume, carried_of, start, CutShort, Rises, session_of, Closed, LeavesFirst, KeepsCarried, Carried, GoesOn, IsPart, Paused, Line}
 use Rattle.ask_seats.specs.Talks.{Writes}
 use Rattle.ask_seats.proofs.FrontLemmas.{leads-new, keeps-none}
 use Rattle.ask_seats.proofs.SessionLemmas.{stands-first, cut-first, goes-first}

@@ -1,4 +1,4 @@
-use Rattle.std.proofs.Common.{◌≡◌, ℕ, zero, suc, ◌<◌, None, true, List, [], ◌∷◌, ◌++◌, length, get_or, refl, sym, ap, ap₂, ◌∙◌, subst, arith, rules}
+use Rattle.std.proofs.Common.{◌≡◌, ℕ, zero, suc, ◌<◌, None, true, [], ◌∷◌, get_or, refl, sym, ap₂, ◌∙◌, subst, arith, rules}
 use Rattle.cell_words.proofs.Names.{has, AreAll, IsSeatOf, seats_of, held_of, number_of, Countdown, CountSeat}
 use Rattle.cell_words.proofs.tests.close_two.Goals as goal
 

@@ -1,6 +1,5 @@
 use Rattle.std.proofs.Common.{◌≡◌}
-use Rattle.correlators.specs.Volumes.{keys_of_pair, coefficient_of, first_lacking}
-use Rattle.correlators.specs.Kept.{AreCoefficients}
+use Rattle.correlators.proofs.Words.{keys_of_pair, coefficient_of, first_lacking, AreCoefficients}
 use Rattle.correlators.proofs.PairLemmas.{lacking_from}
 use Rattle.correlators.proofs.coefficients.coefficients.Given as goal
 

@@ -1,5 +1,6 @@
 use Rattle.std.proofs.Common.{◌≡◌}
-use Rattle.correlators.specs.Volumes.{keys_of_pair, value_of, first_lacking}
+use Rattle.correlators.proofs.Words.{keys_of_pair, first_lacking}
+use Rattle.correlators.specs.Volumes.{value_of}
 use Rattle.correlators.proofs.PairLemmas.{lacking_from}
 use Rattle.correlators.proofs.coefficients.first_without.Given as goal
 

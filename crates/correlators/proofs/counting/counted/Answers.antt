@@ -1,10 +1,7 @@
 use Rattle.std.proofs.Common.{arith, ◌≡◌, ℕ, ◌^◌, ◌+◌, ◌-◌, ◌*◌, ◌≤◌, ◌<◌, refl, ap₂, ◌∙◌}
-use Rattle.std.proofs.Math.Nat.{pow-le-pow_right, mul-le-mul}
-use Rattle.airy_math.specs.Keys.{euler}
-use Rattle.airy_math.specs.Sums.{binomial}
-use Rattle.correlators.specs.Volumes.{counted}
+use Rattle.correlators.proofs.Words.{pow-le-pow_right, euler, binomial, counted, binomial-next, binomial-small}
+use Rattle.std.proofs.Math.Nat.{mul-le-mul}
 use Rattle.correlators.proofs.CountLemmas.{counted_lists}
-use Rattle.airy_index.proofs.BinomialLemmas.{binomial-next, binomial-small}
 use Rattle.correlators.proofs.counting.counted.Goals as goal
 
 pub loop-i-init : goal.loop-i-init

@@ -1,5 +1,5 @@
 use Rattle.std.proofs.Common.{◌≡◌}
-use Rattle.airy_math.specs.Sums.{binomial}
+use Rattle.correlators.proofs.Words.{binomial}
 use Rattle.correlators.proofs.counting.counted.Given as goal
 
 abbrev pub invariant-loop-i : goal.invariant-loop-i

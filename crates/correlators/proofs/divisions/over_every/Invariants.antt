@@ -1,7 +1,6 @@
-use Rattle.std.proofs.Common.{◌≡◌, ◌-◌, ◌+◌, ◌*◌, map, Some}
-use Rattle.airy_math.specs.Sums.{below, count_from}
-use Rattle.correlators.specs.Divisions.{divided}
+use Rattle.std.proofs.Common.{◌≡◌, ◌+◌, ◌*◌}
+use Rattle.correlators.proofs.DivisionLemmas.{left}
 use Rattle.correlators.proofs.divisions.over_every.Given as goal
 
 abbrev pub invariant-loop-k : goal.invariant-loop-k
-invariant-loop-k l = divided (Some l.quotient) (map (λ k. l.step * k + (l.step + 1)) (count_from l.k (l.count - l.k))) ≡ divided (Some l.initial.quotient) (map (λ k. l.step * k + (l.step + 1)) (below l.count))
+invariant-loop-k l = left (λ k. l.step * k + (l.step + 1)) l.count l.k l.quotient ≡ left (λ k. l.step * k + (l.step + 1)) l.count 0 l.initial.quotient

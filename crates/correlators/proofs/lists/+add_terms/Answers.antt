@@ -1,9 +1,6 @@
 use Rattle.std.proofs.Common.{arith, ◌≡◌, ap, sym, refl, subst, ◌∙◌, length, take, ◌++◌, ◌∷◌, [], ◌-◌, ◌+◌}
-use Rattle.std.proofs.lemmas.Result.{on_ok_weaker}
-use Rattle.std.proofs.lemmas.List.{length_push}
-use Rattle.airy_math.specs.Keys.{total, euler}
-use Rattle.amp_plan.proofs.ListingLemmas.{popped}
-use Rattle.correlators.specs.Kept.{AddsTerms, behind}
+use Rattle.correlators.proofs.Words.{on_ok_weaker, length_push, total, euler, popped, AddsTerms, behind}
+use Rattle.index_lists.proofs.ListingLemmas.{popped}
 use Rattle.correlators.proofs.ListLemmas.{total-push, first_lists, behind-none, behind-all, behind-last}
 use Rattle.correlators.proofs.AddLemmas.{adds-none, adds-next}
 use Rattle.correlators.proofs.lists.+add_terms.Goals as goal

@@ -1,5 +1,5 @@
 use Rattle.std.proofs.Common.{◌≡◌, ◌-◌}
-use Rattle.correlators.specs.Kept.{AddsTerms, behind}
+use Rattle.correlators.proofs.Words.{AddsTerms, behind}
 use Rattle.correlators.proofs.ListLemmas.{first_lists}
 use Rattle.correlators.proofs.lists.+add_terms.Given as goal
 

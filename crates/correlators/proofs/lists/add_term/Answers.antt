@@ -1,7 +1,5 @@
 use Rattle.std.proofs.Common.{◌≡◌, Bool, true, false, arith, sym, ap, ◌∙◌}
-use Rattle.airy_math.specs.Keys.{euler, key_of, ordered}
-use Rattle.amp_plan.specs.Plans.{Planning, rank_at}
-use Rattle.amp_plan.specs.Places.{place_in}
+use Rattle.correlators.proofs.Words.{euler, key_of, ordered, Planning, rank_at, place_in}
 use Rattle.correlators.proofs.TermLemmas.{placed, ranked, adds_nothing, adds_one}
 use Rattle.correlators.proofs.lists.add_term.Goals as goal
 

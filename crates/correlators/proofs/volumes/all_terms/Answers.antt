@@ -1,8 +1,5 @@
 use Rattle.std.proofs.Common.{◌≡◌, [], arith, refl, sym, ap, subst, ◌∙◌, ◌++◌}
-use Rattle.airy_math.specs.Keys.{euler, total}
-use Rattle.airy_math.specs.Sums.{below, count_from, each}
-use Rattle.correlators.specs.Volumes.{lists_of_sum, lists_up_to}
-use Rattle.correlators.specs.Kept.{AddsTerms, behind}
+use Rattle.correlators.proofs.Words.{euler, total, below, count_from, each, lists_of_sum, lists_up_to, AddsTerms, behind}
 use Rattle.correlators.proofs.ListLemmas.{each-next, behind-nothing}
 use Rattle.correlators.proofs.AddLemmas.{adds-none, adds-both}
 use Rattle.correlators.proofs.volumes.all_terms.Goals as goal

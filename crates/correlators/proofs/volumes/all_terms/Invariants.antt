@@ -1,7 +1,5 @@
 use Rattle.std.proofs.Common.{◌≡◌, []}
-use Rattle.airy_math.specs.Sums.{below, each}
-use Rattle.correlators.specs.Volumes.{lists_of_sum}
-use Rattle.correlators.specs.Kept.{AddsTerms}
+use Rattle.correlators.proofs.Words.{below, each, lists_of_sum, AddsTerms}
 use Rattle.correlators.proofs.volumes.all_terms.Given as goal
 
 abbrev pub invariant-loop-sum : goal.invariant-loop-sum

@@ -6,8 +6,8 @@ use Rattle.airy_math.specs.RationalLaws.{1ℚ}
 use Rattle.airy_math.specs.Curves.{numbers_down}
 use Rattle.airy_math.specs.Families.{sine, wp_number}
 use Rattle.airy_curve.specs.Numbers.{downwards, held, Holds}
-use Rattle.airy_curve.specs.Steps.{first_answer, next_number}
-use Rattle.airy_curve.proofs.StepLemmas.{answer_goes, answer_stops, answer_ends, before-held, holds-next, holds-start, next-agree, number-exact, number_first}
+use Rattle.airy_curve.specs.Steps.{next_number}
+use Rattle.airy_curve.proofs.StepLemmas.{before-held, fine_next, first_is, first_none, holds-next, holds-start, next-agree, number-exact, number_first}
 use Rattle.named_families.specs.Steps.{number_refusal}
 use Rattle.airy_math.proofs.NumberLaw.{sine_zero}
 use Rattle.named_families.proofs.NumberLaw.{u-exact, u-read, number_fine, u_refused, c_refused}
@@ -18,14 +18,14 @@ unfolding 1ℚ
 loop-k-init c = (
   holds-start sine c.whole-u.result (c.whole-u.ensures ∙ sym sine_zero),
   holds-start wp_number c.whole-c.result (c.whole-c.ensures ∙ sym (number_first sine)),
-  ap (λ n. first_answer 1 n number_refusal) (search rules),
+  λ m p q. absurd (omega arith),
 )
 
 pub returns-in_default-clause-over : goal.returns-in_default-clause-over
 returns-in_default-clause-over c =
     let none : obtained_product c.index-u-k.result c.ratio.result ≡ None = search rules in
     let u : obtained_product (sine (c.loop-k.k - 1)) (negsuc 1 /ℚ (c.loop-k.k * (2 * c.loop-k.k + 1))) ≡ None = u-read c.loop-k.k c.loop-k.u c.index-u-k.result c.ratio.result (omega arith) (omega arith) c.loop-k.invariant.0 c.index-u-k.is c.ratio.ensures ∙ none in
-    sym c.loop-k.invariant.2 ∙ answer_stops number_refusal c.loop-k.k (c.args.most + 1) c.loop-k.k (omega arith) (u_refused c.loop-k.k u)
+    first_is number_refusal 1 c.args.most c.loop-k.k c.loop-k.k (omega arith) (omega arith) c.loop-k.invariant.2 (u_refused c.loop-k.k u)
 
 pub returns-in_default-next_number-clause-over : goal.returns-in_default-next_number-clause-over
 returns-in_default-next_number-clause-over c =
@@ -37,7 +37,7 @@ returns-in_default-next_number-clause-over c =
     let n : next_number sine (numbers_down sine (k - 1)) ≡ None =
     ap (next_number sine) (sym (before-held sine k c.loop-k.c (omega arith) c.loop-k.invariant.1))
     ∙ sym (next-agree (held (set c.loop-k.u k c.in-Some.factor)) sine (held c.loop-k.c) k (λ m p. us.at m (omega arith))) ∙ none in
-    sym c.loop-k.invariant.2 ∙ answer_stops number_refusal k (c.args.most + 1) k (omega arith) (c_refused k c.in-Some.factor u n)
+    first_is number_refusal 1 c.args.most k k (omega arith) (omega arith) c.loop-k.invariant.2 (c_refused k c.in-Some.factor u n)
 
 pub loop-k-preserved : goal.loop-k-preserved
 loop-k-preserved c =
@@ -51,9 +51,8 @@ loop-k-preserved c =
     ∙ sym (next-agree (held (set c.loop-k.u k c.in-Some.factor)) sine (held c.loop-k.c) k (λ m p. us.at m (omega arith))) ∙ number in (
       us,
       holds-next wp_number k c.loop-k.c c.in-Some-next_number.number (omega arith) c.loop-k.invariant.1 (number-exact sine k c.in-Some-next_number.number (omega arith) n),
-      sym (answer_goes number_refusal k (c.args.most + 1) (omega arith) (number_fine k c.in-Some.factor c.in-Some-next_number.number u n)) ∙ c.loop-k.invariant.2,
+      fine_next number_refusal 1 k c.loop-k.invariant.2 (number_fine k c.in-Some.factor c.in-Some-next_number.number u n),
     )
 
 pub returns-clause-obtained : goal.returns-clause-obtained
-returns-clause-obtained c =
-    sym c.loop-k.invariant.2 ∙ answer_ends number_refusal c.loop-k.k (c.args.most + 1) (omega arith)
+returns-clause-obtained c = first_none number_refusal 1 c.args.most (λ m p q. c.loop-k.invariant.2 m p (omega arith))

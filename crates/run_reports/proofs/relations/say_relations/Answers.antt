@@ -1,4 +1,4 @@
-use Rattle.sparse_tensor.specs.Entries.{looked_up}
+use Rattle.run_reports.proofs.Names.{looked_up}
 use Rattle.run_reports.proofs.RelationLemmas.{verdict_tells}
 use Rattle.run_reports.proofs.relations.say_relations.Goals as goal
 

@@ -1,4 +1,4 @@
-use Rattle.std.proofs.lemmas.Result.{err_from_is_err_and}
+use Rattle.run_reports.proofs.Names.{err_from_is_err_and}
 use Rattle.run_reports.proofs.FormLemmas.{writes_then, writes_cut}
 use Rattle.run_reports.proofs.tables.write_end.Goals as goal
 

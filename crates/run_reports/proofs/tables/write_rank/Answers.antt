@@ -1,7 +1,7 @@
 use Rattle.std.proofs.Common.{◌≡◌, rules, Some, None}
 use Rattle.run_reports.proofs.Names.{value_at, row_text}
-use Rattle.run_reports.proofs.RowLemmas.{row-none}
 use Rattle.run_reports.proofs.tables.write_rank.Goals as goal
+use Rattle.tensor_text.proofs.WriteLemmas.{writes_nothing}
 
 pub returns-in-Some : goal.returns-in-Some
 returns-in-Some g c =
@@ -12,4 +12,4 @@ pub returns-in-None : goal.returns-in-None
 unfolding row_text
 returns-in-None g c =
     let none : value_at c.args.table.now c.args.rank ≡ None = search rules in
-    rw none (row-none (g.W.Sink.state c.args.out.now) tt)
+    rw none (writes_nothing (g.W.Sink.state c.args.out.now) tt)

@@ -1,6 +1,5 @@
 use Rattle.std.proofs.Common.{◌++◌, codes}
-use Rattle.run_reports.proofs.Names.{count_text, plan_last}
-use Rattle.std.proofs.lemmas.Result.{err_from_is_err_and}
+use Rattle.run_reports.proofs.Names.{count_text, plan_last, err_from_is_err_and}
 use Rattle.run_reports.proofs.FormLemmas.{writes_then, writes_cut}
 use Rattle.run_reports.proofs.tables.write_rest.Goals as goal
 

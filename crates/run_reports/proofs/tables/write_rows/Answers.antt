@@ -1,7 +1,5 @@
 use Rattle.std.proofs.Common.{◌≡◌, ◌<◌, ◌≤◌, rules, arith, length}
-use Rattle.run_reports.proofs.Names.{keys_of, rows_text}
-use Rattle.std.proofs.KnownBytes.{Appends-trans}
-use Rattle.std.proofs.lemmas.Result.{err_from_is_err_and}
+use Rattle.run_reports.proofs.Names.{keys_of, rows_text, Appends-trans, err_from_is_err_and}
 use Rattle.amp_plan.specs.Plans.{key_at}
 use Rattle.run_reports.proofs.RowLemmas.{rows-more, rows-cut, rows-done}
 use Rattle.run_reports.proofs.tables.write_rows.Goals as goal

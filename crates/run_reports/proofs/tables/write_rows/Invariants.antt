@@ -1,6 +1,5 @@
 use Rattle.std.proofs.Common.{◌≡◌, take}
-use Rattle.run_reports.proofs.Names.{keys_of, rows_text}
-use Rattle.std.specs.Io.KnownBytes.{Appends}
+use Rattle.run_reports.proofs.Names.{keys_of, rows_text, Appends}
 use Rattle.run_reports.proofs.tables.write_rows.Given as goal
 
 abbrev pub invariant-loop-rank : goal.invariant-loop-rank

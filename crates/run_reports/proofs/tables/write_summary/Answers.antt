@@ -1,6 +1,5 @@
 use Rattle.std.proofs.Common.{◌∙◌, ap, length, List, Option, codes}
-use Rattle.run_reports.proofs.Names.{Outcome, count_text, plan_rest}
-use Rattle.std.proofs.lemmas.Result.{err_from_is_err_and}
+use Rattle.run_reports.proofs.Names.{Outcome, count_text, plan_rest, err_from_is_err_and}
 use Rattle.run_reports.proofs.ReportLemmas.{full-length}
 use Rattle.run_reports.proofs.FormLemmas.{summary_is, writes_then, writes_cut}
 use Rattle.run_reports.proofs.tables.write_summary.Goals as goal

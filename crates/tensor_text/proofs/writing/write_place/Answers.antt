@@ -2,8 +2,9 @@ use Rattle.std.proofs.Common.{rules, ◌≡◌}
 use Rattle.airy_math.specs.RationalLaws.{0ℚ}
 use Rattle.tensor_text.specs.Pieces.{place_piece, value_in}
 use Rattle.tensor_text.proofs.WriteLemmas.{writes_nothing}
-use Rattle.tensor_text.proofs.ZeroLemmas.{zero_test, some_test}
+use Rattle.tensor_text.proofs.ZeroLemmas.{zero_test}
 use Rattle.tensor_text.proofs.writing.write_place.Goals as goal
+use Rattle.sparse_tensor.proofs.SoundLaw.{is_zero-some}
 
 pub returns-then-is_zero : goal.returns-then-is_zero
 unfolding place_piece
@@ -16,5 +17,5 @@ pub returns : goal.returns
 unfolding place_piece
 returns g c =
     let some : ((value_in c.args.letter c.args.t.now c.args.i c.args.j c.args.k) ≡ 0ℚ → ⊥) = search rules in
-    let test = some_test (value_in c.args.letter c.args.t.now c.args.i c.args.j c.args.k) some in
+    let test = is_zero-some (value_in c.args.letter c.args.t.now c.args.i c.args.j c.args.k) some in
     rw (test, ← c.value_in-v.ensures) c.write_entry.ensures

@@ -1,6 +1,6 @@
 use Rattle.std.proofs.Common.{arith, rules, sym, ap, subst, ◌≡◌, ◌≤◌, ◌<◌, ◌^◌, ◌∷◌, [], ◌+ℤ◌}
 use Rattle.amp_plan.proofs.Words.{unsigned_abs, ints, per_n, IsMeasured}
-use Rattle.amp_plan.proofs.MeasureLemmas.{measured-light, measured-append}
+use Rattle.index_lists.proofs.MeasureLemmas.{measured-light, measured-append}
 use Rattle.amp_plan.proofs.share.Share.of.Goals as goal
 
 pub overflow_sub-result : goal.overflow_sub-result

@@ -1,8 +1,7 @@
-use Rattle.std.proofs.Common.{◌≡◌, ℕ, ◌<◌, true, false, arith, refl, sym, ap, ◌∙◌, subst}
 use Rattle.amp_plan.specs.Needs.{AreNeeds}
 use Rattle.amp_plan.proofs.PlaceLemmas.{rank_within}
 use Rattle.amp_terms.proofs.BlockedLemmas.{blocked-below}
-use Rattle.ask_seats.proofs.Names.{Planning, tensors_of, ListsPlanned, Key, IsKey, place_in, Place, cells, outcome_at, reply_of, is_rank, outcome_reply}
+use Rattle.ask_seats.proofs.Names.{◌≡◌, ℕ, ◌<◌, true, false, arith, refl, sym, ap, ◌∙◌, subst, Planning, tensors_of, ListsPlanned, Key, IsKey, place_in, Place, cells, outcome_at, reply_of, is_rank, outcome_reply}
 use Rattle.ask_seats.specs.Asks.{AnswersAt, Looks, finds, misses}
 use Rattle.amp_plan.specs.declared.place.Place.TheVariants as place
 use Rattle.ask_seats.proofs.asker.Asker.ask.Goals as goal

@@ -1,36 +1,10 @@
-use Rattle.std.proofs.Common.{◌≡◌, ℕ, true, false, List, get_or, sym, ap, subst, refl, rules}
-use Rattle.std.specs.Option.{is_some}
+use Rattle.std.proofs.Common.{◌≡◌, ℕ, List, get_or, sym, ap, subst, refl, rules}
 use Rattle.airy_math.specs.Rational.{ℚ}
 use Rattle.airy_math.specs.RationalLaws.{0ℚ}
 use Rattle.bulk_tensors.specs.declared.slots.Gain.{Gain}
 use Rattle.bulk_tensors.specs.Full.{Lists, entry, listed, SameBelow}
-use Rattle.bulk_tensors.specs.Change.{slot_by_slot, gained, parts_obtained, gains, gains_obtained, obtained_gained}
+use Rattle.bulk_tensors.specs.Change.{slot_by_slot, gained, gains}
 use Rattle.bulk_tensors.proofs.full_tensors.FullTensors.change_slots.Goals as goal
-
-pub returns-in_err-change-clause-obtained : goal.returns-in_err-change-clause-obtained
-unfolding gains_obtained listed
-returns-in_err-change-clause-obtained c =
-    let t = c.args.self.now in
-    let parts : parts_obtained t.dim c.args.amplitude.now c.args.contracted.now (entry t.a) (entry t.b) (entry t.c) ≡ false = search rules in
-    let none : is_some c.from_residual.result ≡ false = search rules in
-    rw (none, parts) refl
-
-pub returns-in_err-self-inside-clause-obtained : goal.returns-in_err-self-inside-clause-obtained
-unfolding gains_obtained listed
-returns-in_err-self-inside-clause-obtained c =
-    let t = c.args.self.now in
-    let parts : parts_obtained t.dim c.args.amplitude.now c.args.contracted.now (entry t.a) (entry t.b) (entry t.c) ≡ true = search rules in
-    let D : is_some (obtained_gained c.args.amplitude.now (λ i. get_or t.d i 0ℚ) c.args.amplitude.now.to) ≡ false = search rules in
-    let none : is_some c.from_residual-in_err-self-inside.result ≡ false = search rules in
-    rw (none, parts, D) refl
-
-pub returns-clause-obtained : goal.returns-clause-obtained
-unfolding gains_obtained listed
-returns-clause-obtained c =
-    let t = c.args.self.now in
-    let parts : parts_obtained t.dim c.args.amplitude.now c.args.contracted.now (entry t.a) (entry t.b) (entry t.c) ≡ true = search rules in
-    let D : is_some (obtained_gained c.args.amplitude.now (λ i. get_or t.d i 0ℚ) c.args.amplitude.now.to) ≡ true = search rules in
-    rw (parts, D) refl
 
 -- what is said of lists, said of equal ones, and below an equal dim
 moved : (l m k : Gain) (n n' : ℕ) (xs xs' ys ys' : List ℚ) → n ≡ n' → xs' ≡ xs → ys ≡ ys' → SameBelow n (entry xs) (slot_by_slot l m k (entry ys)) → SameBelow n' (entry xs') (slot_by_slot l m k (entry ys'))

@@ -3,10 +3,10 @@ use Rattle.std.proofs.lemmas.Fn.{FoldsTo-push}
 use Rattle.std.proofs.lemmas.List.Elements.{All-nil, All-push}
 use Rattle.cell_words.proofs.Names.{has, dependents_at, act_of, freed_by, IsAtAct, view_of, CountSeat, when, unless}
 use Rattle.cell_words.specs.Seats.{plan_of}
-use Rattle.cell_words.proofs.BookLemmas.{has_at}
 use Rattle.cell_words.proofs.SeatLemmas.{freed_is}
 use Rattle.cell_words.proofs.countdown.Countdown.fill_at.Goals.{then-sign-eq1, else-sign-eq1}
 use Rattle.cell_words.proofs.countdown.Countdown.fill_at.Goals as goal
+use Rattle.amp_plan.proofs.RowLemmas.{has-at}
 
 pub loop-i-init : goal.loop-i-init
 loop-i-init g c =
@@ -31,7 +31,7 @@ loop-i-preserved g c =
     let kept = c.sign.ensures.kept in
     let next = c.dependents-next.result.now in
     let all = dependents_at (plan_of c.args.self.now) r in
-    let one : has (get_or next c.loop-i.i 0) all ≡ true = subst (λ l. has (get_or next c.loop-i.i 0) l ≡ true) c.dependents-next.ensures (has_at next c.loop-i.i c.loop-i-test.true) in
+    let one : has (get_or next c.loop-i.i 0) all ≡ true = subst (λ l. has (get_or next c.loop-i.i 0) l ≡ true) c.dependents-next.ensures (has-at next c.loop-i.i c.loop-i-test.true) in
     elim c.if-sign-eq1.branch [
       | then-sign-eq1 w ↦ record {
         act = now;

@@ -12,7 +12,7 @@ invariant_of-result c =
     let n : to_z w128 (of_z w128 c.parts-num.result.0) ≡ v.num = search rules in
     let d : unsigned_abs (to_z w128 (of_z w128 c.parts-num.result.1)) ≡ v.den = search rules in
     let s = zeros_split 128 v.den c.range_fact.ensures.positive (omega arith) in
-    rw (n, d) (record { num_fits = c.range_fact.ensures.range.num; den_fits = rw s c.range_fact.ensures.range.den; twos_fit = few_twos _ _ v.den s c.range_fact.ensures.positive c.range_fact.ensures.range.den })
+    rw (n, d) (record { num_fits = c.range_fact.ensures.range.num; den_fits = rw s c.range_fact.ensures.range.den; twos_fit = few_twos 127 _ _ v.den s c.range_fact.ensures.positive c.range_fact.ensures.range.den })
 
 pub returns : goal.returns
 returns c =

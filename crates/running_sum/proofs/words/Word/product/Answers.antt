@@ -1,7 +1,7 @@
-use Rattle.std.proofs.Common.{rules, arith, ◌≡◌, to_z, of_z, ◌*ℤ◌, ap₂, ◌∙◌}
+use Rattle.std.proofs.Common.{rules, arith, ◌≡◌, to_z, of_z, ◌*ℤ◌, ap₂, ◌∙◌, Some}
 use Rattle.std.specs.Int.{w64, w128}
 use Rattle.airy_math.specs.Obtained.{◌⊛◌}
-use Rattle.running_sum.proofs.UnreducedLemmas.{product_of, words_fit}
+use Rattle.running_sum.proofs.UnreducedLemmas.{word_product, words_fit}
 use Rattle.running_sum.proofs.words.Word.product.Goals as goal
 use Rattle.frac128.proofs.SignLemmas.{small_number}
 
@@ -25,4 +25,5 @@ returns c =
     let a : to_z w128 (of_z w128 (to_z w64 (of_z w64 n))) ≡ n = search rules in
     let b : to_z w128 (of_z w128 (to_z w64 (of_z w64 m))) ≡ m = search rules in
     let p : to_z w128 (of_z w128 (n *ℤ m)) ≡ n *ℤ m = search (rules, fits) in
-    rw (a, b, p) (product_of n m c.self.inside.odd c.o.inside.odd c.self.inside.twos c.o.inside.twos f (search rules) ∙ ap₂ ◌⊛◌ c.self.view_is c.o.view_is)
+    rw (a, b, p) (word_product n m c.self.inside.odd c.o.inside.odd c.self.inside.twos c.o.inside.twos c.self.invariant.odd_above c.o.invariant.odd_above f (search rules)
+    ∙ ap₂ (λ x y. Some x ⊛ Some y) c.self.view_is c.o.view_is)

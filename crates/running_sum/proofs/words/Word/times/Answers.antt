@@ -1,9 +1,10 @@
-use Rattle.std.proofs.Common.{rules, arith, ◌≡◌, ◌*◌, ◌+◌, ◌<◌, to_z, of_z, ◌*ℤ◌, ap₂, ◌∙◌}
+use Rattle.std.proofs.Common.{rules, arith, ◌≡◌, ◌*◌, ◌+◌, ◌<◌, to_z, of_z, ◌*ℤ◌, ap₂, sym, ◌∙◌, Some}
 use Rattle.std.specs.Int.{w64}
 use Rattle.std.specs.Prelude.{◌^◌, FitsSigned}
 use Rattle.airy_math.specs.Obtained.{◌⊛◌}
-use Rattle.running_sum.proofs.UnreducedLemmas.{product_of, word_fits, size-shifted}
+use Rattle.running_sum.proofs.UnreducedLemmas.{word_product, some_of, word_fits, size-shifted}
 use Rattle.running_sum.proofs.words.Word.times.Goals as goal
+use Rattle.airy_math.proofs.ConstraintLemmas.{both_positive}
 
 pub returns : goal.returns
 returns c =
@@ -15,4 +16,8 @@ returns c =
     let f : FitsSigned w64 n = search rules in
     let l = word_fits n f in
     let h : o < 2 ^ 64 = search rules in
-    rw (en, eo) (product_of c.self.inside.num c.o.inside.num c.self.inside.odd c.o.inside.odd c.self.inside.twos c.o.inside.twos (omega arith) (size-shifted o 64 t h (omega arith)) ∙ ap₂ ◌⊛◌ c.self.view_is c.o.view_is)
+    let a = c.self.invariant.odd_above in
+    let b = c.o.invariant.odd_above in
+    rw (en, eo) (sym (some_of n o t (both_positive c.self.inside.odd c.o.inside.odd a b))
+    ∙ word_product c.self.inside.num c.o.inside.num c.self.inside.odd c.o.inside.odd c.self.inside.twos c.o.inside.twos a b (omega arith) (size-shifted o 64 t h (omega arith))
+    ∙ ap₂ (λ x y. Some x ⊛ Some y) c.self.view_is c.o.view_is)

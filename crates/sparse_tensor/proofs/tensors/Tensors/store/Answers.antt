@@ -1,4 +1,4 @@
-use Rattle.std.proofs.Common.{ap, refl, subst, arith}
+use Rattle.std.proofs.Common.{refl, subst}
 use Rattle.airy_math.specs.Tensors.{is_zero}
 use Rattle.sparse_tensor.specs.declared.parts.Part.TheVariants.{A, B, C}
 use Rattle.sparse_tensor.specs.Entries.{Entries}
@@ -7,14 +7,8 @@ use Rattle.sparse_tensor.specs.Puts.{are_inside, keeps_in, taken_in, with_in, Is
 use Rattle.sparse_tensor.specs.Rows.{Places, PutsIn}
 use Rattle.sparse_tensor.specs.Parts.{gathered, AreParts}
 use Rattle.sparse_tensor.proofs.JoinLemmas.{puts-whole}
-use Rattle.sparse_tensor.proofs.PutLaw.{below, left, parts-a, parts-b, parts-c, with_a-some, with_b-some, with_c-some}
+use Rattle.sparse_tensor.proofs.PutLaw.{left, parts-a, parts-b, parts-c, with_a-some, with_b-some, with_c-some}
 use Rattle.sparse_tensor.proofs.tensors.Tensors.store.Goals as goal
-
-pub put-requires : goal.put-requires
-put-requires c =
-    let l = below c.args.self.now.dim c.args.i c.args.j c.args.k c.requires.inside_true in
-    let same = ap (λ (t : Entries). t.dim) c.self.view_is in
-    omega arith
 
 pub invariant_of-self : goal.invariant_of-self
 unfolding keeps_in
@@ -32,18 +26,6 @@ returns-in-A c =
     rw c.in-A.is (subst (λ (t : Entries). PutsIn c.put.result (taken_in A t c.args.i c.args.j c.args.k) t (with_in A t c.args.i c.args.j c.args.k c.args.v) (whole c.put.new.self)) c.self.view_is
     (puts-whole whole c.put.result _ _ s.a _ c.put.new.self _ _ refl refl (with_a-some (whole s.a) c.args.i c.args.j c.args.k c.args.v c.requires.zero_false) (rw (c.min.ensures, c.max.ensures) at c.put.ensures)))
 
-pub put-requires-in-B-clause-first : goal.put-requires-in-B-clause-first
-put-requires-in-B-clause-first c =
-    let l = below c.args.self.now.dim c.args.i c.args.j c.args.k c.requires.inside_true in
-    let same = ap (λ (t : Entries). t.dim) c.self.view_is in
-    omega arith
-
-pub put-requires-in-B-clause-second : goal.put-requires-in-B-clause-second
-put-requires-in-B-clause-second c =
-    let l = below c.args.self.now.dim c.args.i c.args.j c.args.k c.requires.inside_true in
-    let same = ap (λ (t : Entries). t.dim) c.self.view_is in
-    omega arith
-
 pub invariant_of-self-in-B : goal.invariant_of-self-in-B
 unfolding keeps_in
 invariant_of-self-in-B c =
@@ -59,12 +41,6 @@ returns-in-B c =
     let whole : Places → Entries = λ p. gathered s.dim s.shape s.letter s.a p s.c s.d in
     rw c.in-B.is (subst (λ (t : Entries). PutsIn c.put-in-B.result (taken_in B t c.args.i c.args.j c.args.k) t (with_in B t c.args.i c.args.j c.args.k c.args.v) (whole c.put-in-B.new.self)) c.self.view_is
     (puts-whole whole c.put-in-B.result _ _ s.b _ c.put-in-B.new.self _ _ refl refl (with_b-some (whole s.b) c.args.i c.args.j c.args.k c.args.v c.requires.zero_false) c.put-in-B.ensures))
-
-pub put-requires-in-C : goal.put-requires-in-C
-put-requires-in-C c =
-    let l = below c.args.self.now.dim c.args.i c.args.j c.args.k c.requires.inside_true in
-    let same = ap (λ (t : Entries). t.dim) c.self.view_is in
-    omega arith
 
 pub invariant_of-self-in-C : goal.invariant_of-self-in-C
 unfolding keeps_in

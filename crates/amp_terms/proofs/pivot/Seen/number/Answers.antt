@@ -1,7 +1,0 @@
-use Rattle.std.proofs.Common.{sym, ap, ◌∙◌}
-use Rattle.amp_terms.specs.Tables.{value_of}
-use Rattle.amp_terms.proofs.pivot.Seen.number.Goals as goal
-
-pub returns-in-Value-clause-number : goal.returns-in-Value-clause-number
-unfolding value_of
-returns-in-Value-clause-number g c = c.of.ensures ∙ ap value_of (sym c.in-Value.is ∙ c.at.ensures.outcome)

@@ -1,0 +1,10 @@
+pub mod KeyLemmas
+pub mod WindowLemmas
+pub mod ListingLemmas
+pub mod LevelLemmas
+pub mod ListWalkLemmas
+pub mod MeasureLemmas
+pub mod SplitLemmas
+pub mod RestLemmas
+pub mod SplitListLemmas
+pub mod Words

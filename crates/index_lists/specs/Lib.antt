@@ -1,0 +1,5 @@
+pub mod Listing
+pub mod Measures
+pub mod Parts
+pub mod Rests
+pub mod SplitLists

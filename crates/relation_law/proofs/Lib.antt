@@ -1,0 +1,5 @@
+pub mod Crossing
+pub mod CurveCuts
+pub mod CurveLaw
+pub mod NamedLaw
+pub mod Sequences

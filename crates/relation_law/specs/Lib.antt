@@ -1,0 +1,4 @@
+pub mod Curve
+pub mod CurveExamples
+pub mod Cuts
+pub mod Shapes
