@@ -73,7 +73,7 @@ pub record StandsIn (p : Planning) (h : Share) (s : Split) : Type 0 where
   pub fits : FitsShare p h s
   pub small : s.ways ≤ 2 ^ 25
 
-pub all_stand : (p : Planning) (h : Share) (I : List ℕ) → IsShare p h → HasRoom (tensors_of p) p.bound h.genus I → IsMeasured h.per_n (h.pair.b ∷ I) h.right → AllByRecursion (StandsIn p h) (splits I)
+pub all_stand : (p : Planning) (h : Share) (I : List ℕ) → IsShare p h → HasRoom (tensors_of p) p.bound h.genus I → IsMeasured h.per_n (h.pair.now.b ∷ I) h.right → AllByRecursion (StandsIn p h) (splits I)
 all_stand p h I is room right =
     let few : length I ≤ 25 = omega (arith, room.level, is.bound) in
     let power : 2 ^ length I ≤ 2 ^ 25 = pow-le-pow_right (lit≤ tt) few in
@@ -104,11 +104,11 @@ abbrev pub IsOnly : Share → Option ℕ → Type 0
 IsOnly h k = (n : ℕ) → k ≡ Some n → (h.low ≡ h.high) × (n ≡ chain h.low)
 
 -- a split that is passed over has no product
-passed_none : (p : Planning) (h : Share) (k : Option ℕ) (s : Split) → IsShare p h → IsOnly h k → StandsIn p h s → is_passed k (chain (excess h.per_n s.part)) ≡ true → split_part p h.genus h.pair.a h.pair.b h.pair.weight h.k s ≡ []
+passed_none : (p : Planning) (h : Share) (k : Option ℕ) (s : Split) → IsShare p h → IsOnly h k → StandsIn p h s → is_passed k (chain (excess h.per_n s.part)) ≡ true → split_part p h.genus h.pair.now.a h.pair.now.b h.pair.now.weight h.k s ≡ []
 unfolding split_part is_passed
 passed_none p h None s is only f other = cc
 passed_none p h (Some n) s is only f other =
-    no_ranks p (key_of h.k (insert h.pair.a s.part)) (key_of (h.genus - h.k) (insert h.pair.b s.rest)) (Twice h.pair.weight (whole s.ways)) (λ a b.
+    no_ranks p (key_of h.k (insert h.pair.now.a s.part)) (key_of (h.genus - h.k) (insert h.pair.now.b s.rest)) (Twice h.pair.now.weight (whole s.ways)) (λ a b.
     let w = live_within p h s is f.fits a b in
     let o = only n refl in
     let same : excess h.per_n s.part ≡ h.low = omega (arith, ints, w.0, w.1, o.0) in
@@ -145,7 +145,7 @@ module _ {W S : Type 0} {allows : W → ℕ → Type 0} {state : W → S} {step 
   walked-within {xs} e = omega (arith, w.is, first_with-within k (all_listed c w.ahead), length-listed c w.ahead, ap length w.taken.parts, length-append w.taken.before w.ahead, ap length e, length-listed c all)
 
 abbrev pub made : Planning → Share → Split → List RankedTerm
-made p h = split_part p h.genus h.pair.a h.pair.b h.pair.weight h.k
+made p h = split_part p h.genus h.pair.now.a h.pair.now.b h.pair.now.weight h.k
 
 -- A split that is met as it is listed, what stands behind it, and what was taken before it.
 pub record IsMet {W S : Type 0} (allows : W → ℕ → Type 0) (state : W → S) (step : S → RankedTerm → S) (p : Planning) (h : Share) (k : Option ℕ) (all : List Split) (left : ℕ) (old new : W) (r : Listed × ℕ) : Type 0 where

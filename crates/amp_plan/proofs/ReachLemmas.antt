@@ -82,17 +82,17 @@ no_ranks p L R f n = by (live (tensors_of p).shape L) (live (tensors_of p).shape
     by false t n = refl
 
 -- a product is live only where the part's excess lies between the share's two numbers
-pub live_within : (p : Planning) (h : Share) (t : Split) → IsShare p h → FitsShare p h t → live (tensors_of p).shape (key_of h.k (insert h.pair.a t.part)) ≡ true → live (tensors_of p).shape (key_of (h.genus - h.k) (insert h.pair.b t.rest)) ≡ true
+pub live_within : (p : Planning) (h : Share) (t : Split) → IsShare p h → FitsShare p h t → live (tensors_of p).shape (key_of h.k (insert h.pair.now.a t.part)) ≡ true → live (tensors_of p).shape (key_of (h.genus - h.k) (insert h.pair.now.b t.rest)) ≡ true
     → (h.low ≤ℤ excess h.per_n t.part) × (excess h.per_n t.part ≤ℤ h.high)
 unfolding excess tensors_of looked_up
 live_within p h t is f left right =
-    let e : excess h.per_n (h.pair.a ∷ []) ≡ h.left.excess = sym is.left.excess in
-    let d : excess h.per_n (h.pair.b ∷ (t.part ++ t.rest)) ≡ h.right.excess = sym f.right.excess in
+    let e : excess h.per_n (h.pair.now.a ∷ []) ≡ h.left.excess = sym is.left.excess in
+    let d : excess h.per_n (h.pair.now.b ∷ (t.part ++ t.rest)) ≡ h.right.excess = sym f.right.excess in
     let sum = excess-append h.per_n t.part t.rest in
     let part = f.is_part.part in
     let rest = f.is_part.rest in
-    let l = live-excess p h.per_n h.k h.pair.a t.part is.law is.small_law (omega (arith, is.a, is.dim)) (bytes_below 0 p.tensors.dim t.part (omega (arith, is.dim)) part.sorted) (omega (arith, part.level, is.bound)) left in
-    let r = live-excess p h.per_n (h.genus - h.k) h.pair.b t.rest is.law is.small_law (omega (arith, is.b, is.dim)) (bytes_below 0 p.tensors.dim t.rest (omega (arith, is.dim)) rest.sorted) (omega (arith, rest.level, is.bound)) right in
+    let l = live-excess p h.per_n h.k h.pair.now.a t.part is.law is.small_law (omega (arith, is.a, is.dim)) (bytes_below 0 p.tensors.dim t.part (omega (arith, is.dim)) part.sorted) (omega (arith, part.level, is.bound)) left in
+    let r = live-excess p h.per_n (h.genus - h.k) h.pair.now.b t.rest is.law is.small_law (omega (arith, is.b, is.dim)) (bytes_below 0 p.tensors.dim t.rest (omega (arith, is.dim)) rest.sorted) (omega (arith, rest.level, is.bound)) right in
     (omega (arith, ints, is.low, r, d, sum), omega (arith, ints, is.high, l, e))
 
 reached : (h : Share) (c : Chosen) (s e : ℤ) → c.part.excess ≡ s → h.low ≤ℤ (s +ℤ e) → (s +ℤ e) ≤ℤ h.high → e ≤ℤ pos c.gain → pos 0 ≤ℤ (e +ℤ pos c.loss) → can_reach h c ≡ true
@@ -104,11 +104,11 @@ unfolding behind
 excess-behind s u c = excess-append c s.part u.part
 
 none_live : (p : Planning) (h : Share) (left : List (ℕ × ℕ)) (c : Chosen) (s u : Split) → IsShare p h → IsChosen p h left c s → can_reach h c ≡ false → FitsShare p h (behind s u) → IsShared h.per_n (listed left) u
-    → split_part p h.genus h.pair.a h.pair.b h.pair.weight h.k (behind s u) ≡ []
+    → split_part p h.genus h.pair.now.a h.pair.now.b h.pair.now.weight h.k (behind s u) ≡ []
 unfolding split_part
 none_live p h left c s u is k e f i =
     let t = behind s u in
-    no_ranks p (key_of h.k (insert h.pair.a t.part)) (key_of (h.genus - h.k) (insert h.pair.b t.rest)) (Twice h.pair.weight (whole t.ways)) (λ a b.
+    no_ranks p (key_of h.k (insert h.pair.now.a t.part)) (key_of (h.genus - h.k) (insert h.pair.now.b t.rest)) (Twice h.pair.now.weight (whole t.ways)) (λ a b.
     let w = live_within p h t is f a b in
     false≢true (sym e ∙ reached h c (excess h.per_n s.part) (excess h.per_n u.part) k.part.excess (subst (λ z. h.low ≤ℤ z) (excess-behind s u h.per_n) w.0) (subst (λ z. z ≤ℤ h.high) (excess-behind s u h.per_n) w.1)
     (subst (λ n. excess h.per_n u.part ≤ℤ pos n) (sym k.gain) i.most) (subst (λ n. pos 0 ≤ℤ (excess h.per_n u.part +ℤ pos n)) (sym k.loss) i.least)))
@@ -117,6 +117,6 @@ none_live p h left c s u is k e f i =
 pub passed_over : {p : Planning} {h : Share} {left : List (ℕ × ℕ)} {c : Chosen} {s : Split} → IsShare p h → IsChosen p h left c s → can_reach h c ≡ false → choice_part p h s left ≡ []
 unfolding choice_part
 passed_over {p} {h} {left} {c} {s} is k e =
-    each-none (λ u. split_part p h.genus h.pair.a h.pair.b h.pair.weight h.k (behind s u)) (all_splits left)
-    (all-both (λ u. FitsShare p h (behind s u)) (IsShared h.per_n (listed left)) (λ u. split_part p h.genus h.pair.a h.pair.b h.pair.weight h.k (behind s u) ≡ []) (all_splits left)
+    each-none (λ u. split_part p h.genus h.pair.now.a h.pair.now.b h.pair.now.weight h.k (behind s u)) (all_splits left)
+    (all-both (λ u. FitsShare p h (behind s u)) (IsShared h.per_n (listed left)) (λ u. split_part p h.genus h.pair.now.a h.pair.now.b h.pair.now.weight h.k (behind s u) ≡ []) (all_splits left)
     (λ u f i. none_live p h left c s u is k e f i) k.fits (shared h.per_n left))

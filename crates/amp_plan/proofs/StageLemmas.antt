@@ -18,21 +18,21 @@ chosen-light {p} {h} {left} {c} {s} is k = measured-light h.per_n s.part c.part 
 
 -- the key of the part, with the first index of the pair
 pub left_candidate : (p : Planning) (h : Share) (c : Chosen) (s : Split) → IsShare p h → IsChosen p h [] c s
-    → IsCandidate p h.k (record { places = h.left.places + c.part.places; excess = h.left.excess +ℤ c.part.excess; code = h.left.code + c.part.code }) (key_of h.k (insert h.pair.a s.part))
+    → IsCandidate p h.k (record { places = h.left.places + c.part.places; excess = h.left.excess +ℤ c.part.excess; code = h.left.code + c.part.code }) (key_of h.k (insert h.pair.now.a s.part))
 unfolding key_of tensors_of looked_up
 left_candidate p h c s is k =
     let m : Measure = record { places = h.left.places + c.part.places; excess = h.left.excess +ℤ c.part.excess; code = h.left.code + c.part.code } in
     let room = (fits-end (FitsShare p h) s k.fits).is_part.part in
     record {
       genus = refl;
-      measured = subst (λ z. IsMeasured z (insert h.pair.a s.part) m) is.law (measured-insert h.per_n h.pair.a s.part m (measured-append h.per_n (h.pair.a ∷ []) s.part h.left c.part is.left k.part));
-      sorted = sorted-insert p.tensors.dim h.pair.a s.part is.a room.sorted;
-      some = omega (arith, length-insert h.pair.a s.part);
-      level = omega (arith, length-insert h.pair.a s.part, room.level);
+      measured = subst (λ z. IsMeasured z (insert h.pair.now.a s.part) m) is.law (measured-insert h.per_n h.pair.now.a s.part m (measured-append h.per_n (h.pair.now.a ∷ []) s.part h.left c.part is.left k.part));
+      sorted = sorted-insert p.tensors.dim h.pair.now.a s.part is.a room.sorted;
+      some = omega (arith, length-insert h.pair.now.a s.part);
+      level = omega (arith, length-insert h.pair.now.a s.part, room.level);
     }
 
 pub left_code : {p : Planning} {h : Share} {c : Chosen} {s : Split} → IsShare p h → IsChosen p h [] c s → h.left.code + c.part.code < 2 ^ 63
-left_code {p} {h} {c} {s} is k = omega (arith, is.left.code, list_code-more h.pair.a [], list_code-none, index_code-small h.pair.a, k.part.code, list_code-small s.part, k.few)
+left_code {p} {h} {c} {s} is k = omega (arith, is.left.code, list_code-more h.pair.now.a [], list_code-none, index_code-small h.pair.now.a, k.part.code, list_code-small s.part, k.few)
 
 -- the part is no more than the whole
 pub record IsWithin (part whole : Measure) : Type 0 where
@@ -44,12 +44,12 @@ part_within {p} {h} {c} {s} k =
     let f = fits-end (FitsShare p h) s k.fits in
     record {
       places = omega (arith, k.part.places, f.right.places, length-append s.part s.rest);
-      code = omega (arith, k.part.code, f.right.code, list_code-more h.pair.b (s.part ++ s.rest), list_code-append s.part s.rest);
+      code = omega (arith, k.part.code, f.right.code, list_code-more h.pair.now.b (s.part ++ s.rest), list_code-append s.part s.rest);
     }
 
 -- the key of the rest, with the second index of the pair
 pub right_candidate : (p : Planning) (h : Share) (c : Chosen) (s : Split) → IsShare p h → IsChosen p h [] c s
-    → IsCandidate p (h.genus - h.k) (record { places = h.right.places - c.part.places; excess = h.right.excess -ℤ c.part.excess; code = h.right.code - c.part.code }) (key_of (h.genus - h.k) (insert h.pair.b s.rest))
+    → IsCandidate p (h.genus - h.k) (record { places = h.right.places - c.part.places; excess = h.right.excess -ℤ c.part.excess; code = h.right.code - c.part.code }) (key_of (h.genus - h.k) (insert h.pair.now.b s.rest))
 unfolding key_of tensors_of looked_up
 right_candidate p h c s is k =
     let m : Measure = record { places = h.right.places - c.part.places; excess = h.right.excess -ℤ c.part.excess; code = h.right.code - c.part.code } in
@@ -57,19 +57,19 @@ right_candidate p h c s is k =
     let room = f.is_part.rest in
     record {
       genus = refl;
-      measured = subst (λ z. IsMeasured z (insert h.pair.b s.rest) m) is.law (measured-insert h.per_n h.pair.b s.rest m (measured-rest h.per_n h.pair.b s.part s.rest h.right c.part f.right k.part));
-      sorted = sorted-insert p.tensors.dim h.pair.b s.rest is.b room.sorted;
-      some = omega (arith, length-insert h.pair.b s.rest);
-      level = omega (arith, length-insert h.pair.b s.rest, room.level);
+      measured = subst (λ z. IsMeasured z (insert h.pair.now.b s.rest) m) is.law (measured-insert h.per_n h.pair.now.b s.rest m (measured-rest h.per_n h.pair.now.b s.part s.rest h.right c.part f.right k.part));
+      sorted = sorted-insert p.tensors.dim h.pair.now.b s.rest is.b room.sorted;
+      some = omega (arith, length-insert h.pair.now.b s.rest);
+      level = omega (arith, length-insert h.pair.now.b s.rest, room.level);
     }
 
 pub left_found : {p : Planning} {h : Share} {c : Chosen} {s : Split} {m : Measure} {r : Option ℕ} → IsShare p h → IsChosen p h [] c s → m ≡ record { places = h.left.places + c.part.places; excess = h.left.excess +ℤ c.part.excess; code = h.left.code + c.part.code }
-    → ((key : Key) → IsCandidate p h.k m key → r ≡ live_rank p key) → r ≡ live_rank p (key_of h.k (insert h.pair.a s.part))
-left_found {p} {h} {c} {s} {m} {r} is k e f = f _ (subst (λ z. IsCandidate p h.k z (key_of h.k (insert h.pair.a s.part))) (sym e) (left_candidate p h c s is k))
+    → ((key : Key) → IsCandidate p h.k m key → r ≡ live_rank p key) → r ≡ live_rank p (key_of h.k (insert h.pair.now.a s.part))
+left_found {p} {h} {c} {s} {m} {r} is k e f = f _ (subst (λ z. IsCandidate p h.k z (key_of h.k (insert h.pair.now.a s.part))) (sym e) (left_candidate p h c s is k))
 
 pub right_found : {p : Planning} {h : Share} {c : Chosen} {s : Split} {m : Measure} {r : Option ℕ} → IsShare p h → IsChosen p h [] c s → m ≡ record { places = h.right.places - c.part.places; excess = h.right.excess -ℤ c.part.excess; code = h.right.code - c.part.code }
-    → ((key : Key) → IsCandidate p (h.genus - h.k) m key → r ≡ live_rank p key) → r ≡ live_rank p (key_of (h.genus - h.k) (insert h.pair.b s.rest))
-right_found {p} {h} {c} {s} {m} {r} is k e f = f _ (subst (λ z. IsCandidate p (h.genus - h.k) z (key_of (h.genus - h.k) (insert h.pair.b s.rest))) (sym e) (right_candidate p h c s is k))
+    → ((key : Key) → IsCandidate p (h.genus - h.k) m key → r ≡ live_rank p key) → r ≡ live_rank p (key_of (h.genus - h.k) (insert h.pair.now.b s.rest))
+right_found {p} {h} {c} {s} {m} {r} is k e f = f _ (subst (λ z. IsCandidate p (h.genus - h.k) z (key_of (h.genus - h.k) (insert h.pair.now.b s.rest))) (sym e) (right_candidate p h c s is k))
 
 -- ---- from one number of copies to the next
 

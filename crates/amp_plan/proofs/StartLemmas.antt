@@ -16,17 +16,17 @@ sorted-weaken k m n [] l s = tt
 sorted-weaken k m n (x ∷ xs) l s = (s.0, omega (arith, l, s.1), sorted-weaken x m n xs l s.2)
 
 -- each split of the list fits the share
-pub all_fit : (p : Planning) (h : Share) (I : List ℕ) → IsShare p h → HasRoom (tensors_of p) p.bound h.genus I → IsMeasured h.per_n (h.pair.b ∷ I) h.right → AllByRecursion (FitsShare p h) (splits I)
+pub all_fit : (p : Planning) (h : Share) (I : List ℕ) → IsShare p h → HasRoom (tensors_of p) p.bound h.genus I → IsMeasured h.per_n (h.pair.now.b ∷ I) h.right → AllByRecursion (FitsShare p h) (splits I)
 unfolding tensors_of looked_up
 all_fit p h I is room right =
     let few : length I ≤ 25 = omega (arith, room.level, is.bound) in
     let bytes : IsSortedFrom 0 256 I = sorted-weaken 0 p.tensors.dim 256 I (omega (arith, is.dim)) room.sorted in
     all-both (IsPartOf (tensors_of p) p.bound h.genus h.k) (λ u. AddUp h.per_n u.part u.rest I) (FitsShare p h) (splits I)
-    (λ u part add. record { is_part = part; right = measured-whole h.per_n h.pair.b u.part u.rest I h.right add right })
+    (λ u part add. record { is_part = part; right = measured-whole h.per_n h.pair.now.b u.part u.rest I h.right add right })
     (all-standing (IsPartOf (tensors_of p) p.bound h.genus h.k) [] (splits I) (splits I) refl (λ before after u e. part_of (tensors_of p) p.bound h.genus h.k I before after u room few bytes is.genus e))
     (splits-add h.per_n I)
 
-pub chosen_first : {p : Planning} {h : Share} {I : List ℕ} {up down : ℕ} → IsShare p h → HasRoom (tensors_of p) p.bound h.genus I → IsMeasured h.per_n (h.pair.b ∷ I) h.right → up ≡ gain h.per_n I → down ≡ loss h.per_n I
+pub chosen_first : {p : Planning} {h : Share} {I : List ℕ} {up down : ℕ} → IsShare p h → HasRoom (tensors_of p) p.bound h.genus I → IsMeasured h.per_n (h.pair.now.b ∷ I) h.right → up ≡ gain h.per_n I → down ≡ loss h.per_n I
     → IsChosen p h (runs I) (record { part = record { places = 0; excess = pos 0; code = 0 }; ways = 1; gain = up; loss = down }) no_split
 unfolding no_split
 chosen_first {p} {h} {I} {up} {down} is room right e f =
@@ -47,14 +47,14 @@ chosen_first {p} {h} {I} {up} {down} is room right e f =
 -- A share of a pair and a genus, with what a walk over it asks.
 pub record IsBegun (p : Planning) (h : Share) (I : List ℕ) (products : List RankedTerm) : Type 0 where
   pub room : HasRoom (tensors_of p) p.bound h.genus I
-  pub right : IsMeasured h.per_n (h.pair.b ∷ I) h.right
+  pub right : IsMeasured h.per_n (h.pair.now.b ∷ I) h.right
   pub all : of_share p h I ≡ products
 
-pub begun : {p : Planning} {h : Share} {I : List ℕ} {g k : ℕ} {pair : Pair} → IsShare p h → h.genus ≡ g → h.k ≡ k → h.pair ≡ pair → HasRoom (tensors_of p) p.bound g I → IsMeasured (per_n p.tensors.shape) (pair.b ∷ I) h.right
+pub begun : {p : Planning} {h : Share} {I : List ℕ} {g k : ℕ} {pair : Pair} → IsShare p h → h.genus ≡ g → h.k ≡ k → h.pair.now ≡ pair → HasRoom (tensors_of p) p.bound g I → IsMeasured (per_n p.tensors.shape) (pair.b ∷ I) h.right
     → IsBegun p h I (genus_part p g I pair.a pair.b pair.weight k)
 unfolding of_share
 begun {p} {h} {I} {g} {k} {pair} is e f i room right = record {
   room = subst (λ n. HasRoom (tensors_of p) p.bound n I) (sym e) room;
-  right = subst (λ z. IsMeasured z (h.pair.b ∷ I) h.right) (sym is.law) (subst (λ (q : Pair). IsMeasured (per_n p.tensors.shape) (q.b ∷ I) h.right) (sym i) right);
+  right = subst (λ z. IsMeasured z (h.pair.now.b ∷ I) h.right) (sym is.law) (subst (λ (q : Pair). IsMeasured (per_n p.tensors.shape) (q.b ∷ I) h.right) (sym i) right);
   all = λ j. genus_part p (e j) I (i j).a (i j).b (i j).weight (f j);
 }

@@ -23,11 +23,11 @@ use Rattle.index_lists.specs.declared.chosen.Chosen.{Chosen}
 
 -- the products of all splits that begin with the one that was chosen, and go on with the runs that are left
 unfoldable pub choice_part : Planning → Share → Split → List (ℕ × ℕ) → List RankedTerm
-choice_part p h s rs = each (all_splits rs) (λ t. split_part p h.genus h.pair.a h.pair.b h.pair.weight h.k (behind s t))
+choice_part p h s rs = each (all_splits rs) (λ t. split_part p h.genus h.pair.now.a h.pair.now.b h.pair.now.weight h.k (behind s t))
 
 -- the products of a share of what is left of a key
 unfoldable pub of_share : Planning → Share → List ℕ → List RankedTerm
-of_share p h I = genus_part p h.genus I h.pair.a h.pair.b h.pair.weight h.k
+of_share p h I = genus_part p h.genus I h.pair.now.a h.pair.now.b h.pair.now.weight h.k
 
 -- whether the part's excess can come between the share's two numbers
 unfoldable pub can_reach : Share → Chosen → Bool
@@ -37,9 +37,9 @@ can_reach h c = le_z h.low (c.part.excess +ℤ pos c.gain) && le_z c.part.excess
 pub record IsShare (p : Planning) (h : Share) : Type 0 where
   pub law : h.per_n ≡ per_n p.tensors.shape
   pub genus : h.k ≤ h.genus
-  pub a : h.pair.a < p.tensors.dim
-  pub b : h.pair.b < p.tensors.dim
-  pub left : IsMeasured h.per_n (h.pair.a ∷ []) h.left
+  pub a : h.pair.now.a < p.tensors.dim
+  pub b : h.pair.now.b < p.tensors.dim
+  pub left : IsMeasured h.per_n (h.pair.now.a ∷ []) h.left
   pub high : h.high ≡ law_excess p.tensors.shape h.k -ℤ h.left.excess
   pub low : h.low ≡ h.right.excess -ℤ law_excess p.tensors.shape (h.genus - h.k)
   pub dim : p.tensors.dim ≤ 72
@@ -52,7 +52,7 @@ pub record IsShare (p : Planning) (h : Share) : Type 0 where
 -- A split of the indices of a share.
 pub record FitsShare (p : Planning) (h : Share) (t : Split) : Type 0 where
   pub is_part : IsPartOf (tensors_of p) p.bound h.genus h.k t
-  pub right : IsMeasured h.per_n (h.pair.b ∷ (t.part ++ t.rest)) h.right
+  pub right : IsMeasured h.per_n (h.pair.now.b ∷ (t.part ++ t.rest)) h.right
 
 -- The split is one that was chosen from the first runs, and these are its numbers.
 pub record IsChosen (p : Planning) (h : Share) (left : List (ℕ × ℕ)) (c : Chosen) (s : Split) : Type 0 where

@@ -9,6 +9,7 @@ use crate::rows::zeros;
 use crate::visitor::TermVisitor;
 use crate::walk::walk_ranked;
 use frac128::Frac;
+use running_sum::Weight;
 use std::alloc::{AllocError, Global};
 use std::marker::Model;
 
@@ -112,11 +113,11 @@ impl TermVisitor for Marker {
         self.mark(rank);
     }
 
-    fn joined(&mut self, _weight: Option<Frac>, rank: u32) {
+    fn joined(&mut self, _weight: &Weight, rank: u32) {
         self.mark(rank);
     }
 
-    fn twice(&mut self, _weight: Option<Frac>, _ways: u64, left: u32, right: u32) {
+    fn twice(&mut self, _weight: &Weight, _ways: u64, left: u32, right: u32) {
         self.mark(left);
         self.mark(right);
     }

@@ -23,10 +23,10 @@ use key_index::KeyIndex;
 
 /// The products of a pair of indices with the genus k on the left: what its walk over splits needs.
 #[derive(Clone, Copy)]
-pub(crate) struct Share {
+pub(crate) struct Share<'a> {
     pub(crate) genus: u8,
     pub(crate) k: u8,
-    pub(crate) pair: Pair,
+    pub(crate) pair: &'a Pair,
     /// The law's number for each index.
     pub(crate) per_n: i64,
     /// The measure of the first index of the pair.
@@ -39,7 +39,7 @@ pub(crate) struct Share {
     pub(crate) high: i64,
 }
 
-impl Share {
+impl Share<'_> {
     /// Whether the part's excess can come between the two numbers.
     #[tactic(auto, unfolding(crate::specs::Shares::can_reach))]
     fn can_reach(&self, chosen: &Chosen) -> bool
@@ -53,7 +53,7 @@ impl Share {
 
     /// The same share in a place of its own, so that a reference to it leaves the first in registers: most shares end at one test.
     #[inline(always)]
-    fn moved(&self) -> Share
+    fn moved(&self) -> Share<'_>
         ensures { result ≡ self.now }
     {
         Share {
@@ -127,6 +127,7 @@ fn walk_choices<V: TermVisitor>(
 }
 
 /// Hands over the product of a split whose part has been chosen, where both its keys are live.
+#[inline(always)]
 fn walk_chosen<V: TermVisitor>(
     ranking: &Ranking,
     index: &KeyIndex,
@@ -148,12 +149,12 @@ fn walk_chosen<V: TermVisitor>(
     let Some(right) = find_live(ranking, index, share.genus - share.k, right) else {
         return;
     };
-    visitor.twice(share.pair.weight, chosen.ways, left, right);
+    visitor.twice(&share.pair.weight, chosen.ways, left, right);
 }
 
-impl Share {
+impl<'a> Share<'a> {
     /// The share of a pair and a genus in the products of what is left of a key.
-    fn of(ranking: &Ranking, genus: u8, rest: &Rest, pair: &Pair, k: u8) -> Share
+    fn of(ranking: &Ranking, genus: u8, rest: &Rest, pair: &'a Pair, k: u8) -> Share<'a>
         requires rest { IsRest (shape_per_n ranking.now.tensors.shape) rest.now }
         requires few { length rest.now.list.items ≤ 25 }
         requires a { pair.now.a < ranking.now.tensors.dim }
@@ -162,7 +163,7 @@ impl Share {
         ensures share { IsShare ranking.now result }
         ensures genus { result.genus ≡ genus }
         ensures k { result.k ≡ k }
-        ensures pair { result.pair ≡ pair.now }
+        ensures pair { result.pair.now ≡ pair.now }
         ensures right { IsMeasured (shape_per_n ranking.now.tensors.shape) (pair.now.b ∷ rest.now.list.items) result.right }
     {
         ranking.is_small();
@@ -174,7 +175,7 @@ impl Share {
         Share {
             genus,
             k,
-            pair: *pair,
+            pair,
             per_n,
             left,
             right,
@@ -207,7 +208,7 @@ fn walk_listed<const N: usize, V: TermVisitor>(
     requires exact { index.now.exact ≡ true }
     requires share { IsShare ranking.now share.now }
     requires room { HasRoom (tensors_of ranking.now) ranking.now.bound share.now.genus list.now.rest.list.items }
-    requires right { IsMeasured share.now.per_n (share.now.pair.b ∷ list.now.rest.list.items) share.now.right }
+    requires right { IsMeasured share.now.per_n (share.now.pair.now.b ∷ list.now.rest.list.items) share.now.right }
     requires listed { list.now.splits ≡ all_listed share.now.per_n (splits list.now.rest.list.items) }
     requires allowed { NameAllowed (V.allows visitor.old) (of_share ranking.now share.now list.now.rest.list.items) }
     ensures { Takes V.allows V.state V.step (of_share ranking.now share.now list.now.rest.list.items) visitor.old visitor.new }

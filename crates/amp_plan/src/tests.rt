@@ -5,6 +5,7 @@ ghost use Rattle.amp_plan.specs.Plans.{keys_of, tensors_of};
 use crate::{Place, Plan, PlanCause, TermVisitor, walk_terms};
 use airy_index::{Key, Law, Shape};
 use frac128::Frac;
+use running_sum::Weight;
 use sparse_tensor::{PutErr, Tensors};
 use std::alloc::Global;
 use std::test::Fail;
@@ -332,9 +333,9 @@ impl TermVisitor for Products {
 
     fn once(&mut self, _: u8, _: Frac, _: u32) {}
 
-    fn joined(&mut self, _: Option<Frac>, _: u32) {}
+    fn joined(&mut self, _: &Weight, _: u32) {}
 
-    fn twice(&mut self, _: Option<Frac>, _: u64, _: u32, _: u32) {
+    fn twice(&mut self, _: &Weight, _: u64, _: u32, _: u32) {
         self.count = self.count.wrapping_add(1);
     }
 }

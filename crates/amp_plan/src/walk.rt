@@ -213,7 +213,7 @@ fn walk_joined<V: TermVisitor>(
         return;
     }
     if let Some(rank) = rank_joined(ranking, genus, rest, pair) {
-        visitor.joined(pair.weight, rank);
+        visitor.joined(&pair.weight, rank);
     }
 }
 
@@ -308,5 +308,5 @@ fn walk_split<V: TermVisitor>(
     let Some(right) = rank_with(ranking, genus - k, split.rest.as_slice(), pair.b) else {
         return;
     };
-    visitor.twice(pair.weight, split.weight, left, right);
+    visitor.twice(&pair.weight, split.weight, left, right);
 }

@@ -16,7 +16,7 @@ use crate::word_sum::WordSum;
 use airy_index::Key;
 use amp_plan::{Plan, TermVisitor, walk_terms};
 use frac128::Frac;
-use running_sum::{Unreduced, Word, long_joined, long_once, long_twice};
+use running_sum::{Unreduced, Weight, Word, long_joined, long_once, long_twice};
 
 /// Outcomes of ranks that can be read.
 pub trait Seen {
@@ -140,13 +140,13 @@ impl<'a, S: Seen> TermVisitor for PivotSum<'a, S> {
     }
 
     #[inline(never)]
-    fn joined(&mut self, weight: Option<Frac>, rank: u32) {
+    fn joined(&mut self, weight: &Weight, rank: u32) {
         let factor = self.factor(rank);
         self.sum.add(&long_joined(weight, &factor));
     }
 
     #[inline(never)]
-    fn twice(&mut self, weight: Option<Frac>, ways: u64, left: u32, right: u32) {
+    fn twice(&mut self, weight: &Weight, ways: u64, left: u32, right: u32) {
         let first = self.factor(left);
         let second = self.factor(right);
         self.sum.add(&long_twice(weight, ways, &first, &second));

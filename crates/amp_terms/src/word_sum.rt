@@ -8,7 +8,7 @@ ghost use Rattle.amp_terms.specs.Pivots.{IsTerm};
 use crate::pivot::{PivotSum, Seen};
 use amp_plan::TermVisitor;
 use frac128::Frac;
-use running_sum::{Unreduced, word_joined, word_once, word_twice};
+use running_sum::{Unreduced, Weight, word_joined, word_once, word_twice};
 
 /// The sum of the terms so far, and the least rank so far without a Value. Terms of words are added first.
 #[derive(Drop)]
@@ -41,15 +41,16 @@ impl<'a, S: Seen> TermVisitor for WordSum<'a, S> {
         }
     }
 
-    fn joined(&mut self, weight: Option<Frac>, rank: u32) {
-        match seen_joined(self.any.seen, &weight, rank) {
+    fn joined(&mut self, weight: &Weight, rank: u32) {
+        match seen_joined(self.any.seen, weight, rank) {
             Some(term) => self.any.sum.add(&term),
             None => self.any.joined(weight, rank),
         }
     }
 
-    fn twice(&mut self, weight: Option<Frac>, ways: u64, left: u32, right: u32) {
-        match seen_twice(self.any.seen, &weight, ways, left, right) {
+    #[inline(always)]
+    fn twice(&mut self, weight: &Weight, ways: u64, left: u32, right: u32) {
+        match seen_twice(self.any.seen, weight, ways, left, right) {
             Some(term) => self.any.sum.add(&term),
             None => self.any.twice(weight, ways, left, right),
         }
@@ -71,7 +72,7 @@ fn seen_once<S: Seen>(seen: &mut S, times: u8, v: Frac, rank: u32) -> Option<Unr
 
 /// The term w F by words, where F is a Value.
 #[inline(always)]
-fn seen_joined<S: Seen>(seen: &mut S, weight: &Option<Frac>, rank: u32) -> Option<Unreduced>
+fn seen_joined<S: Seen>(seen: &mut S, weight: &Weight, rank: u32) -> Option<Unreduced>
     requires { S.has seen.old rank }
     ensures term { IfSome result (IsTerm (S.shown seen.old) (Joined weight.now rank)) }
     ensures ranks { (r : ℕ) → S.has seen.new r ↔ S.has seen.old r }
@@ -86,7 +87,7 @@ fn seen_joined<S: Seen>(seen: &mut S, weight: &Option<Frac>, rank: u32) -> Optio
 #[inline(always)]
 fn seen_twice<S: Seen>(
     seen: &mut S,
-    weight: &Option<Frac>,
+    weight: &Weight,
     ways: u64,
     left: u32,
     right: u32,

@@ -1,7 +1,6 @@
 -- The words that the proofs of this crate share.
 pub use Rattle.airy_index.proofs.BinomialLemmas.{binomial-small}
 pub use Rattle.airy_index.proofs.ChoiceLemmas.{splits-all}
-pub use Rattle.airy_index.proofs.ChosenLemmas.{small_more}
 pub use Rattle.airy_index.proofs.SortedLemmas.{ordered-sorted}
 unfoldable pub use Rattle.airy_index.specs.Choices.{all_splits, chosen_split, put_before, whole_length}
 pub use Rattle.airy_index.specs.declared.key.KeyErr.TheVariants.{NoPlace, TooMany, Unstable}
@@ -26,8 +25,8 @@ unfoldable pub use Rattle.index_lists.specs.Listing.{found, is_in, keys_at, keys
 pub use Rattle.index_lists.specs.Measures.{IsLight, IsMeasured}
 unfoldable pub use Rattle.index_lists.specs.Measures.{covers_excess, law_excess}
 unfoldable pub use Rattle.index_lists.specs.Parts.{more_of, no_split}
-pub use Rattle.index_lists.specs.SplitLists.{CanBeListed, chain}
-unfoldable pub use Rattle.index_lists.specs.SplitLists.{all_listed, going_on, listed_of, numbers_of, taken_so}
+pub use Rattle.index_lists.specs.SplitLists.{chain}
+unfoldable pub use Rattle.index_lists.specs.SplitLists.{all_listed, all_without, full, going_on, last_of, listed_of, numbers_of, part_without}
 pub use Rattle.index_lists.specs.declared.chosen.Chosen.{Chosen}
 pub use Rattle.index_lists.specs.declared.measure.Measure.{Measure}
 pub use Rattle.index_lists.specs.declared.split_list.Listed.{Listed}
@@ -37,10 +36,10 @@ pub use Rattle.key_index.proofs.CodeLemmas.{list_code-append, list_code-more, li
 pub use Rattle.key_index.specs.Codes.{code_of_list}
 unfoldable pub use Rattle.sparse_tensor.specs.Entries.{looked_up}
 unfoldable pub use Rattle.sparse_tensor.specs.Grades.{IsSmallLaw}
-pub use Rattle.std.proofs.Math.Nat.{mul-le-mul, mul_assoc, one-le-pow}
+pub use Rattle.std.proofs.Math.Nat.{mul_assoc}
 pub use Rattle.std.proofs.lemmas.Bool.{cases_lt, false≢true}
 pub use Rattle.std.proofs.lemmas.Int.{ints}
-pub use Rattle.std.proofs.lemmas.List.{nil_from_length, take_more}
+pub use Rattle.std.proofs.lemmas.List.{take_more}
 pub use Rattle.std.proofs.lemmas.Result.{err_from_is_err_and, on_ok_weaker}
 pub use Rattle.std.specs.Int.RustNames.{unsigned_abs}
 pub use Rattle.std.specs.List.{AllByRecursion}

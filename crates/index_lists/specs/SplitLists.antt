@@ -1,21 +1,20 @@
 -- The splits of a list with what a walk needs of each, in their order.
-use Prim.Native.Nat.{ℕ, suc, ◌+◌, ◌*◌, ◌-◌, ◌%◌, ◌≤◌, ◌<◌, ◌^◌}
+use Prim.Native.Nat.{ℕ, suc, ◌*◌, ◌-◌, ◌%◌, ◌^◌}
 use mathlib.Core.Path.{◌≡◌}
 use mathlib.Core.Bool.{Bool, false, not}
 use mathlib.Core.List.{List, [], ◌∷◌, ◌++◌, map}
 use lib.Dec.{eqb}
 use Rattle.std.specs.Prelude.{Option, Some, None}
 use Rattle.item_chains.specs.Chains.{from_first}
-use lib.ListN.{length}
-use lib.IntN.{ℤ, pos, ◌+ℤ◌}
-use Rattle.std.specs.List.{AllByRecursion}
+use lib.ListN.{length, drop}
+use lib.IntN.{ℤ, pos, ◌+ℤ◌, ◌-ℤ◌}
 use Rattle.airy_math.specs.Cuts.{natural}
 use Rattle.airy_math.specs.Splits.{Split}
 use Rattle.airy_math.specs.Sums.{count_from, each}
-use Rattle.airy_index.specs.Choices.{all_splits, whole_length}
+use Rattle.airy_index.specs.Choices.{all_splits}
 use Rattle.key_index.specs.Codes.{code_of_list}
 use Rattle.index_lists.specs.Measures.{excess}
-use Rattle.index_lists.specs.Parts.{behind, more_of}
+use Rattle.index_lists.specs.Parts.{behind, more_of, no_split, listed}
 use Rattle.index_lists.specs.declared.chosen.Chosen.{Chosen}
 use Rattle.index_lists.specs.declared.split_list.Listed.{Listed}
 
@@ -53,26 +52,31 @@ first_with (Some n) xs = from_first n xs
 abbrev pub MeetsAt : {T : Type 0} → Option ℕ → List (ℕ × T) → ℕ → T × ℕ → Type 0
 MeetsAt {T} k xs left r = (before after : List (ℕ × T)) (x : ℕ × T) → before ++ x ∷ after ≡ xs → left ≡ suc (length after) → is_passed k x.0 ≡ false → r ≡ (x.1, first_with k after)
 
--- the split with t copies of the first run's index, where a run is left
-unfoldable pub taken_so : Split → List (ℕ × ℕ) → ℕ → Split
-taken_so s [] t = s
-taken_so s (r ∷ rs) t = more_of s r t
+-- what is listed of a part without another one, whose ways come on top
+unfoldable pub part_without : Listed → Listed → Listed
+part_without f x = record { code = x.code - f.code; ways = x.ways * f.ways; excess = x.excess -ℤ f.excess; places = x.places - f.places }
+
+-- the same of all that are listed, each with its chain
+unfoldable pub all_without : Listed → List (ℕ × Listed) → List (ℕ × Listed)
+all_without f xs = map (λ x. (chain (part_without f x.1).excess, part_without f x.1)) xs
+
+-- the last n of a list
+unfoldable pub last_of : {A : Type 0} → ℕ → List A → List A
+last_of n xs = drop (length xs - n) xs
+
+-- the split whose part takes all
+unfoldable pub full : List (ℕ × ℕ) → Split
+full rs = record { part = listed rs; rest = []; ways = 1 }
 
 -- all splits that go on from s with at least t copies of the first run's index
 unfoldable pub going_on : Split → List (ℕ × ℕ) → ℕ → List Split
 going_on s [] t = s ∷ []
 going_on s (r ∷ rs) t = each (count_from t (suc r.1 - t)) λ u. map (behind (more_of s r u)) (all_splits rs)
 
--- how many copies the first run has
-unfoldable pub copies : List (ℕ × ℕ) → ℕ
-copies [] = 0
-copies (r ∷ rs) = r.1
+-- Where the splits that take all copies of the run behind a split were listed, now all that go on from it with the run are.
+abbrev pub ListsRun : ℤ → ℕ × ℕ → List (ℕ × Listed) → List (ℕ × Listed) → Type 0
+ListsRun c r old new = (s : Split) (rs : List (ℕ × ℕ)) → old ≡ all_listed c (going_on (more_of s r r.1) rs 0) → new ≡ all_listed c (going_on s (r ∷ rs) 0)
 
--- The numbers are those of a split of at most 25 bytes, that has t copies of the first run's index.
-pub record CanBeListed (c : ℤ) (left : List (ℕ × ℕ)) (t : ℕ) (x : Chosen) : Type 0 where
-  pub split : Split
-  pub is : x ≡ numbers_of c (taken_so split left t)
-  pub within : t ≤ copies left
-  pub bytes : AllByRecursion (λ b. b < 256) split.part
-  pub few : length split.part + whole_length left ≤ 25
-  pub small : split.ways * 2 ^ whole_length left ≤ 2 ^ 25
+-- Where the split that takes all of the runs was listed, now all their splits are.
+abbrev pub ListsRuns : ℤ → List (ℕ × ℕ) → List (ℕ × Listed) → List (ℕ × Listed) → Type 0
+ListsRuns c rs old new = old ≡ all_listed c (full rs ∷ []) → new ≡ all_listed c (going_on no_split rs 0)

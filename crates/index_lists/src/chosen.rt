@@ -15,6 +15,23 @@ pub struct Chosen {
 }
 
 impl Chosen {
+    /// Nothing is chosen, and nothing is to come.
+    #[inline]
+    pub(crate) fn nothing() -> Chosen
+        ensures { result ≡ record { part = record { places = 0; excess = pos 0; code = 0 }; ways = 1; gain = 0; loss = 0 } }
+    {
+        Chosen {
+            part: Measure {
+                places: 0,
+                excess: 0,
+                code: 0,
+            },
+            ways: 1,
+            gain: 0,
+            loss: 0,
+        }
+    }
+
     /// The same before a run is chosen from, whose index has this measure: what the run can change is no longer to come.
     #[inline]
     pub fn before(&self, item: &Measure, count: u8) -> Chosen

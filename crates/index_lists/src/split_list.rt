@@ -1,13 +1,13 @@
 // All splits of what is left of a key, listed once a pivot. Where the shape has one excess for the part of each product, an entry of
 // C and a genus meet the splits of that excess in their order, and no other.
-ghost use Rattle.std.specs.Prelude.{◌≡◌, ◌≤◌, ◌<◌, ◌+◌, ◌*◌, ◌^◌, ◌++◌, ◌∷◌, [], ℕ, List, Option, Some, true, length};
+ghost use Rattle.std.specs.Prelude.{◌≡◌, ◌≤◌, ◌<◌, ◌+◌, ◌*◌, ◌^◌, ◌++◌, [], ℕ, Some, IfSome, true, length};
 ghost use Rattle.std.specs.Int.RustNames.{unsigned_abs};
 ghost use Rattle.airy_math.specs.Shapes.{per_n as shape_per_n};
-ghost use Rattle.airy_math.specs.Splits.{Split, splits};
+ghost use Rattle.airy_math.specs.Splits.{splits};
 ghost use Rattle.sparse_tensor.specs.Grades.{IsSmallLaw};
 ghost use Rattle.index_lists.specs.Rests.{IsRest};
-ghost use Rattle.index_lists.specs.declared.split_list.Listed.{Listed as ListedNumbers};
-ghost use Rattle.index_lists.specs.SplitLists.{chain, listed_of, chosen_of, numbers_of, taken_so, going_on, all_listed, first_with, MeetsAt, CanBeListed};
+ghost use Rattle.airy_index.specs.Choices.{whole_length};
+ghost use Rattle.index_lists.specs.SplitLists.{chain, listed_of, chosen_of, part_without, all_without, last_of, all_listed, first_with, ListsRun, ListsRuns, MeetsAt};
 
 use crate::chosen::Chosen;
 use crate::measure::{Measure, above_zero, per_n};
@@ -41,6 +41,20 @@ impl Listed {
             excess: chosen.part.excess as i16,
             places: chosen.part.places,
         }
+    }
+
+    /// What is listed of the part without another one, whose ways come on top, where all fits.
+    #[tactic(auto, unfolding(crate::specs::SplitLists::part_without))]
+    #[inline]
+    fn without(&self, fewer: &Listed) -> Option<Listed>
+        ensures { IfSome result (λ l. l ≡ part_without fewer.now self.now) }
+    {
+        Some(Listed {
+            code: self.code.checked_sub(fewer.code)?,
+            ways: self.ways.checked_mul(fewer.ways)?,
+            excess: self.excess.checked_sub(fewer.excess)?,
+            places: self.places.checked_sub(fewer.places)?,
+        })
     }
 
     /// The part, of which nothing is left to choose.
@@ -83,72 +97,76 @@ pub fn chain_of(excess: i64) -> u8
     (above_zero(excess + (1 << 29)) % 64) as u8
 }
 
-/// Takes the splits of a list, the last of them first.
-pub(crate) trait SplitTaker {
-    ghost holds: { Self → List (ℕ × ListedNumbers) };
-
-    /// Puts a split before the others, with the chain of its excess, and answers true; false where there is no room.
-    fn put(&mut self, chain: u8, split: Listed) -> bool
-        requires { chain < 64 }
-        ensures { result ≡ true → holds self.new ≡ (chain, split) ∷ holds self.old };
-}
-
-impl<const N: usize> SplitTaker for Chains<Listed, N> {
-    ghost holds = { λ c. c };
-
-    fn put(&mut self, chain: u8, split: Listed) -> bool {
-        // no room is larger
-        if N > 2048 {
+/// Puts the last so many splits once more before all, each without a part that all of them have and with as many times the ways, and
+/// answers true; false where there is no room, or where a number doesn't fit, which never comes.
+fn list_without<const N: usize>(
+    fewer: &Listed,
+    count: usize,
+    listed: &mut Chains<Listed, N>,
+) -> bool
+    requires room { N < 2 ^ 16 }
+    requires count { count ≤ length listed.old }
+    ensures { result ≡ true → listed.new ≡ all_without fewer.now (last_of count listed.old) ++ listed.old }
+{
+    let mut done = 0;
+    while done < count {
+        done += 1;
+        let Some(split) = listed.at(done).0.without(fewer) else {
+            return false;
+        };
+        if !listed.put_first(chain_of(i64::from(split.excess)), split) {
             return false;
         }
-        self.put_first(chain, split)
     }
+    true
 }
 
-/// Puts all splits that go on from a part with the runs that are left before those that are listed, in their order, and answers true;
-/// false where there is no room for them.
-#[cycle(lists)]
-fn list_splits<L: SplitTaker>(
-    index: &KeyIndex,
-    per_n: i64,
-    left: &[(u8, u8)],
-    chosen: &Chosen,
-    listed: &mut L,
-) -> bool
-    requires law { unsigned_abs per_n ≤ 99 }
-    requires listable { CanBeListed per_n left.now 0 chosen.now }
-    ensures { (s : Split) → chosen.now ≡ numbers_of per_n (taken_so s left.now 0) → result ≡ true → L.holds listed.new ≡ all_listed per_n (going_on s left.now 0) ++ L.holds listed.old }
-{
-    match left.split_first() {
-        None => listed.put(chain_of(chosen.part.excess), Listed::of(chosen)),
-        Some((run, others)) => list_copies(index, per_n, *run, others, chosen, 0, listed),
-    }
-}
-
-/// The same where a run is left and the part has some copies of its index, of the splits with at least as many.
-#[cycle(lists)]
-fn list_copies<L: SplitTaker>(
+/// Puts, before the splits whose part takes all copies of a run's index, those with one copy less, with two less, and so on.
+fn list_run<const N: usize>(
     index: &KeyIndex,
     per_n: i64,
     run: (u8, u8),
-    others: &[(u8, u8)],
-    chosen: &Chosen,
-    taken: u8,
-    listed: &mut L,
+    listed: &mut Chains<Listed, N>,
 ) -> bool
     requires law { unsigned_abs per_n ≤ 99 }
-    requires listable { CanBeListed per_n (run ∷ others.now) taken chosen.now }
-    ensures { (s : Split) → chosen.now ≡ numbers_of per_n (taken_so s (run ∷ others.now) taken) → result ≡ true → L.holds listed.new ≡ all_listed per_n (going_on s (run ∷ others.now) taken) ++ L.holds listed.old }
+    requires room { N < 2 ^ 16 }
+    requires few { run.1 ≤ 25 }
+    ensures { result ≡ true → ListsRun per_n run listed.old listed.new }
 {
-    if taken == run.1 {
-        return list_splits(index, per_n, others, chosen, listed);
-    }
     let item = Measure::of(index, per_n, run.0);
-    let more = chosen.one_more(&item, run.1, taken);
-    if !list_copies(index, per_n, run, others, &more, taken + 1, listed) {
-        return false;
+    let count = listed.len();
+    let mut fewer = Chosen::nothing();
+    let mut left_out = 0;
+    while left_out < run.1 {
+        fewer = fewer.one_more(&item, run.1, left_out);
+        left_out += 1;
+        if !list_without(&Listed::of(&fewer), count, listed) {
+            return false;
+        }
     }
-    list_splits(index, per_n, others, chosen, listed)
+    true
+}
+
+/// Puts, before the split whose part takes all, those in which it takes fewer: run by run, from the last to the first.
+fn list_runs<const N: usize>(
+    index: &KeyIndex,
+    per_n: i64,
+    runs: &[(u8, u8)],
+    listed: &mut Chains<Listed, N>,
+) -> bool
+    requires law { unsigned_abs per_n ≤ 99 }
+    requires room { N < 2 ^ 16 }
+    requires few { whole_length runs.now ≤ 25 }
+    ensures { result ≡ true → ListsRuns per_n runs.now listed.old listed.new }
+{
+    let mut left = runs.len();
+    while left > 0 {
+        left -= 1;
+        if !list_run(index, per_n, runs[left], listed) {
+            return false;
+        }
+    }
+    true
 }
 
 impl<const N: usize> SplitList<N> {
@@ -190,27 +208,19 @@ impl<const N: usize> SplitList<N> {
         ensures listed { self.new.whole ≡ true → self.new.splits ≡ all_listed (shape_per_n shape) (splits self.new.rest.list.items) }
     {
         self.whole = false;
-        if N == 0 {
+        // no room is larger
+        if N == 0 || N > 2048 {
             return;
         }
         let per_n = per_n(shape);
-        let none = Chosen {
-            part: Measure {
-                places: 0,
-                excess: 0,
-                code: 0,
-            },
-            ways: 1,
-            gain: 0,
-            loss: 0,
+        let all = Chosen {
+            part: self.rest.whole,
+            ..Chosen::nothing()
         };
-        self.whole = list_splits(
-            index,
-            per_n,
-            self.rest.runs.as_slice(),
-            &none,
-            &mut self.splits,
-        );
+        self.whole = self
+            .splits
+            .put_first(chain_of(all.part.excess), Listed::of(&all))
+            && list_runs(index, per_n, self.rest.runs.as_slice(), &mut self.splits);
     }
 }
 

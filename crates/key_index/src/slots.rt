@@ -1,4 +1,5 @@
 ghost use Rattle.std.specs.Prelude.{◌≡◌, ◌≤◌, ◌<◌, ◌+◌, ◌^◌, length, vec_len};
+ghost use Rattle.key_index.specs.Found.{first_rank};
 
 use std::alloc::{AllocError, Global};
 
@@ -63,17 +64,30 @@ impl Slots {
         }
     }
 
-    /// What is found for a code.
+    /// What is found for a code. Nearly every code stands at its start.
     #[tactic(auto, unfolding(crate::specs::Found::found, crate::specs::Found::first_rank))]
     pub(crate) fn find(&self, code: u64) -> Option<u32>
         ensures { result ≡ found self.now.slots.items self.now.width code }
     {
         let start = self.start(code);
-        for slot in &self.slots[start..start + MOST_STEPS] {
-            if slot.code == code {
-                return slot.rank;
-            }
+        let first = &self.slots[start];
+        if first.code == code {
+            return first.rank;
         }
-        None
+        find_behind(&self.slots[start + 1..start + MOST_STEPS], code)
     }
+}
+
+/// What stands at the first slot with the code.
+#[tactic(auto, unfolding(crate::specs::Found::first_rank))]
+#[inline(never)]
+fn find_behind(slots: &[Slot], code: u64) -> Option<u32>
+    ensures { result ≡ first_rank code slots.now }
+{
+    for slot in slots {
+        if slot.code == code {
+            return slot.rank;
+        }
+    }
+    None
 }

@@ -3,7 +3,7 @@ use Rattle.std.proofs.Common.{◌≡◌, ℕ, zero, suc, ◌+◌, ◌-◌, ◌*�
 use Rattle.std.specs.Int.Count.{count_trailing_zeros, under}
 use Rattle.std.specs.Prelude.{◌^◌, IfOk, IsErrOf, Some, Ok, Err, Result}
 use Rattle.std.specs.Result.{result_ok}
-use Rattle.std.proofs.Math.Nat.{pow-suc, mul_comm, div-div-eq-div-mul, div-mul-le_self}
+use Rattle.std.proofs.Math.Nat.{pow-suc, mul_comm, div-div-eq-div-mul}
 use mathlib.Core.Logic.{◌⊎◌, inl, inr}
 use Rattle.airy_math.specs.Rational.{ℚ}
 use Rattle.frac128.specs.declared.fraction.FracErr.{FracErr}
@@ -27,13 +27,6 @@ zeros_split (suc k) n p h =
         → n / 2 ^ under d (count_trailing_zeros k (n / 2)) * 2 ^ under d (count_trailing_zeros k (n / 2)) ≡ n
     by zero e f = even (count_trailing_zeros k (n / 2)) e (f (omega arith))
     by (suc d) e f = let a : n / 2 ^ 0 * 2 ^ 0 ≡ n = omega arith in a
-
-pub any_split : (k n : ℕ) → n < 2 ^ k → n / 2 ^ count_trailing_zeros k n * 2 ^ count_trailing_zeros k n ≡ n
-any_split k zero h = none (2 ^ count_trailing_zeros k 0)
-  where
-    none : (m : ℕ) → 0 / m * m ≡ 0
-    none m = let l = div-mul-le_self 0 m in omega arith
-any_split k (suc n) h = zeros_split k (suc n) (omega arith) h
 
 -- a fraction of numbers in range is made
 pub made : (r : Result ℚ FracErr) (q : ℚ) → (IsErrOf r ZeroDen → ⊥) → (IsErrOf r Over → ⊥) → IfOk r (λ f. f ≡ q) → result_ok r ≡ Some q

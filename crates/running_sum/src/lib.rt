@@ -9,10 +9,12 @@ ghost use Rattle.running_sum.specs.Certified.{CertifiedLaw};
 mod sizes;
 mod terms;
 mod unreduced;
+mod weight;
 mod words;
 
 pub use terms::{long_joined, long_once, long_twice, word_joined, word_once, word_twice};
 pub use unreduced::Unreduced;
+pub use weight::Weight;
 pub use words::Word;
 
 /// A law: multiples of one fraction 1/D are added, in any order, where D and the sum of their sizes are in range, and fractions

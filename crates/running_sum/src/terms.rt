@@ -3,6 +3,7 @@ ghost use Rattle.airy_math.specs.Rational.{whole};
 ghost use Rattle.airy_math.specs.Obtained.{◌⊛◌};
 
 use crate::unreduced::Unreduced;
+use crate::weight::Weight;
 use crate::words::Word;
 use frac128::Frac;
 
@@ -28,42 +29,37 @@ pub fn long_once(times: u8, v: Frac, x: &Unreduced) -> Unreduced
 
 /// w x by words.
 #[inline(always)]
-pub fn word_joined(weight: &Option<Frac>, x: &Word) -> Option<Unreduced>
+pub fn word_joined(weight: &Weight, x: &Word) -> Option<Unreduced>
     ensures { IfSome result (λ t. t ≡ weight.now ⊛ Some x.now) }
 {
-    let Some(weight) = weight else {
-        return None;
-    };
-    Word::of(*weight)?.product(x)
+    weight.word()?.product(x)
 }
 
 /// w x, if w is obtained
-pub fn long_joined(weight: Option<Frac>, x: &Unreduced) -> Unreduced
-    ensures { result ≡ weight ⊛ x.now }
+pub fn long_joined(weight: &Weight, x: &Unreduced) -> Unreduced
+    ensures { result ≡ weight.now ⊛ x.now }
 {
-    Unreduced::from(weight).mul(x)
+    weight.unreduced().mul(x)
 }
 
 /// ((w q) x) y by words.
 #[inline(always)]
-pub fn word_twice(weight: &Option<Frac>, ways: u64, x: &Word, y: &Word) -> Option<Unreduced>
+pub fn word_twice(weight: &Weight, ways: u64, x: &Word, y: &Word) -> Option<Unreduced>
     requires { ways < 2 ^ 63 }
     ensures { IfSome result (λ t. t ≡ weight.now ⊛ Some (whole ways) ⊛ Some x.now ⊛ Some y.now) }
 {
-    let Some(weight) = weight else {
-        return None;
-    };
-    let weight = Word::of(*weight)?.times(&Word::whole(ways))?;
+    let weight = weight.word()?.times(&Word::whole(ways))?;
     weight.times(x)?.product(y)
 }
 
 /// ((w q) x) y, if w is obtained
 #[tactic(auto, unfolding(airy_math::specs::Rational::whole))]
-pub fn long_twice(weight: Option<Frac>, ways: u64, x: &Unreduced, y: &Unreduced) -> Unreduced
+pub fn long_twice(weight: &Weight, ways: u64, x: &Unreduced, y: &Unreduced) -> Unreduced
     requires { ways < 2 ^ 63 }
-    ensures { result ≡ weight ⊛ Some (whole ways) ⊛ x.now ⊛ y.now }
+    ensures { result ≡ weight.now ⊛ Some (whole ways) ⊛ x.now ⊛ y.now }
 {
-    Unreduced::from(weight)
+    weight
+        .unreduced()
         .mul(&Unreduced::of(Frac::whole(ways as i64)))
         .mul(x)
         .mul(y)

@@ -1,5 +1,5 @@
 use crate::{
-    Unreduced, Word, long_joined, long_once, long_twice, word_joined, word_once, word_twice,
+    Unreduced, Weight, Word, long_joined, long_once, long_twice, word_joined, word_once, word_twice,
 };
 use frac128::Frac;
 use std::process::Abort;
@@ -17,6 +17,10 @@ fn unreduced(num: i128, den: i128) -> Result<Unreduced, Fail> {
 
 fn word(num: i128, den: i128) -> Result<Word, Fail> {
     Ok(Word::of(fraction(num, den)?).ok_or("no words")?)
+}
+
+fn weight(num: i128, den: i128) -> Result<Weight, Fail> {
+    Ok(Weight::of(Some(fraction(num, den)?)))
 }
 
 /// The sum of two, beside the sum in lowest terms.
@@ -49,7 +53,7 @@ fn steps_out_of_range(rt: HostRuntime) -> Result<(), Fail> {
     sum.add(&Unreduced::of(Frac::whole(-2)));
     assert_eq!(rt; sum.value(), None);
     let (zero, one) = (unreduced(0, 1)?, unreduced(1, 1)?);
-    let term = long_twice(Some(fraction(GREATEST, 1)?), 2, &zero, &one);
+    let term = long_twice(&weight(GREATEST, 1)?, 2, &zero, &one);
     assert_eq!(rt; term.value(), None);
     Ok(())
 }
@@ -67,9 +71,14 @@ fn terms_of_words(rt: HostRuntime) -> Result<(), Fail> {
     let (x, y) = (word(5, 8)?, word(-7, 5)?);
     let half = fraction(1, 2)?;
     assert!(rt; is_term(word_once(3, half, &x), fraction(15, 16)?));
-    assert!(rt; is_term(word_joined(&Some(half), &x), fraction(5, 16)?));
-    assert!(rt; is_term(word_twice(&Some(half), 6, &x, &y), fraction(-21, 8)?));
-    assert!(rt; word_twice(&None, 6, &x, &y).is_none());
+    assert!(rt; is_term(word_joined(&Weight::of(Some(half)), &x), fraction(5, 16)?));
+    assert!(rt;
+        is_term(
+            word_twice(&Weight::of(Some(half)), 6, &x, &y),
+            fraction(-21, 8)?
+        )
+    );
+    assert!(rt; word_twice(&Weight::of(None), 6, &x, &y).is_none());
     Ok(())
 }
 
@@ -78,11 +87,11 @@ fn terms_of_any_numbers(rt: HostRuntime) -> Result<(), Fail> {
     let long = unreduced(1 << 70, 3)?;
     let mut sum = Unreduced::of(Frac::whole(0));
     sum.add(&long_once(3, fraction(1, 4)?, &unreduced(2, 9)?));
-    sum.add(&long_joined(Some(fraction(1, 1 << 70)?), &long));
+    sum.add(&long_joined(&weight(1, 1 << 70)?, &long));
     let (x, y) = (unreduced(5, 8)?, unreduced(-7, 5)?);
-    sum.add(&long_twice(Some(fraction(1, 2)?), 6, &x, &y));
+    sum.add(&long_twice(&weight(1, 2)?, 6, &x, &y));
     assert_eq!(rt; sum.value(), Some(fraction(-17, 8)?));
-    sum.add(&long_joined(None, &x));
+    sum.add(&long_joined(&Weight::of(None), &x));
     assert_eq!(rt; sum.value(), None);
     Ok(())
 }

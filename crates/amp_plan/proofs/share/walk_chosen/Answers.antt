@@ -39,7 +39,7 @@ twice-requires-clause-left g c =
     let k = c.requires.go_on.chosen in
     let left = left_found c.requires.share k c.plus-left.ensures c.find_live.ensures in
     let right = right_found c.requires.share k c.minus-right.ensures c.find_live-2.ensures in
-    let found = with_ranks _ _ (Twice c.args.share.now.pair.weight (whole c.requires.go_on.split.ways)) _ _ (sym left ∙ c.in-Some.is) (sym right ∙ c.in-Some-find_live.is) in
+    let found = with_ranks _ _ (Twice c.args.share.now.pair.now.weight (whole c.requires.go_on.split.ways)) _ _ (sym left ∙ c.in-Some.is) (sym right ∙ c.in-Some-find_live.is) in
     (allowed-same _ (found ∙ sym (choices-end c.args.ranking.now c.args.share.now c.requires.go_on.split)) c.requires.go_on.allowed).0.0
 
 pub twice-requires-clause-right : goal.twice-requires-clause-right
@@ -48,7 +48,7 @@ twice-requires-clause-right g c =
     let k = c.requires.go_on.chosen in
     let left = left_found c.requires.share k c.plus-left.ensures c.find_live.ensures in
     let right = right_found c.requires.share k c.minus-right.ensures c.find_live-2.ensures in
-    let found = with_ranks _ _ (Twice c.args.share.now.pair.weight (whole c.requires.go_on.split.ways)) _ _ (sym left ∙ c.in-Some.is) (sym right ∙ c.in-Some-find_live.is) in
+    let found = with_ranks _ _ (Twice c.args.share.now.pair.now.weight (whole c.requires.go_on.split.ways)) _ _ (sym left ∙ c.in-Some.is) (sym right ∙ c.in-Some-find_live.is) in
     (allowed-same _ (found ∙ sym (choices-end c.args.ranking.now c.args.share.now c.requires.go_on.split)) c.requires.go_on.allowed).0.1.0
 
 pub returns : goal.returns
@@ -56,6 +56,6 @@ unfolding split_part
 returns g c = λ s k.
     let left = left_found c.requires.share k c.plus-left.ensures c.find_live.ensures in
     let right = right_found c.requires.share k c.minus-right.ensures c.find_live-2.ensures in
-    let found = with_ranks _ _ (Twice c.args.share.now.pair.weight (whole s.ways)) _ _ (sym left ∙ c.in-Some.is) (sym right ∙ c.in-Some-find_live.is) in
-    let step = c.twice.ensures.step ∙ ap (λ n. g.V.TermVisitor.step (g.V.TermVisitor.state c.args.visitor.now) (Twice c.args.share.now.pair.weight (whole n) c.in-Some.left c.in-Some-find_live.right)) k.ways in
+    let found = with_ranks _ _ (Twice c.args.share.now.pair.now.weight (whole s.ways)) _ _ (sym left ∙ c.in-Some.is) (sym right ∙ c.in-Some-find_live.is) in
+    let step = c.twice.ensures.step ∙ ap (λ n. g.V.TermVisitor.step (g.V.TermVisitor.state c.args.visitor.now) (Twice c.args.share.now.pair.now.weight (whole n) c.in-Some.left c.in-Some-find_live.right)) k.ways in
     takes-same (found ∙ sym (choices-end c.args.ranking.now c.args.share.now s)) (takes-one step c.twice.ensures.stays)

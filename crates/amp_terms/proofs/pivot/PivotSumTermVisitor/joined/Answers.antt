@@ -9,4 +9,4 @@ pub returns-clause-step : goal.returns-clause-step
 unfolding with_term all_noted ranks_of obtained_at number_at
 returns-clause-step g c =
     let n = c.factor-factor.ensures in
-    same_summing _ _ n.same_reference n.base n.same n.noted (c.add.ensures ∙ ap₂ (both_obtained obtained_sum) n.sum (c.long_joined.ensures ∙ ap (λ v. c.args.weight ⊛ v) n.factor))
+    same_summing _ _ n.same_reference n.base n.same n.noted (c.add.ensures ∙ ap₂ (both_obtained obtained_sum) n.sum (c.long_joined.ensures ∙ ap (λ v. c.args.weight.now ⊛ v) n.factor))

@@ -15,4 +15,4 @@ returns-clause-step g c =
     let right = s.factor ∙ ap (λ o. Some (value_or_zero (o c.args.right))) f.same in
     same_summing _ _ (s.same_reference ∙ f.same_reference) (s.base ∙ f.base) (s.same ∙ f.same)
     (s.noted ∙ ap₂ (λ b o. noted b c.args.right (o c.args.right)) f.noted f.same)
-    (c.add.ensures ∙ ap₂ (both_obtained obtained_sum) (s.sum ∙ f.sum) (c.long_twice.ensures ∙ ap₂ (λ x y. c.args.weight ⊛ Some (whole c.args.ways) ⊛ x ⊛ y) f.factor right))
+    (c.add.ensures ∙ ap₂ (both_obtained obtained_sum) (s.sum ∙ f.sum) (c.long_twice.ensures ∙ ap₂ (λ x y. c.args.weight.now ⊛ Some (whole c.args.ways) ⊛ x ⊛ y) f.factor right))
