@@ -12,7 +12,7 @@ use Rattle.sparse_tensor.specs.Entries.{Entries, is_given, looked_up, value_of, 
 use Rattle.sparse_tensor.specs.Puts.{with_d}
 use Rattle.sparse_tensor.proofs.EntryLemmas.{value_of-with_value}
 use Rattle.airy_curve.specs.Filling.{FillsD}
-use Rattle.airy_curve.proofs.PutLemmas.{d-is}
+use Rattle.sparse_tensor.proofs.PutFacts.{with_d-is}
 
 abbrev put_value : ℕ → ℚ → List (ℕ × ℚ) → List (ℕ × ℚ)
 put_value i v es = cond (is_zero v) es (with_value i v es)
@@ -26,7 +26,7 @@ put_value_at es n v i free none = by (is_zero v) refl (eqb i n) refl
     by true e true p = ap (value_of es) (eqb-true i n p) ∙ none ∙ sym (zero_number v e)
 
 pub first_others : (t t' : Entries) (i : ℕ) (x : ℚ) → t' ≡ with_d t i x → t' ≡ record t { d = t'.d }
-first_others t t' i x e = let is = e ∙ d-is t i x in is ∙ ap (λ es. record t { d = es }) (sym (ap (λ (u : Entries). u.d) is))
+first_others t t' i x e = let is = e ∙ with_d-is t i x in is ∙ ap (λ es. record t { d = es }) (sym (ap (λ (u : Entries). u.d) is))
 
 pub both_others : (t t' t″ : Entries) (x y : ℚ) → t' ≡ with_d t 0 x → t″ ≡ with_d t' 1 y → t″ ≡ record t { d = t″.d }
 both_others t t' t″ x y e e' = first_others t' t″ 1 y e' ∙ ap (λ (u : Entries). record u { d = t″.d }) (first_others t t' 0 x e)
@@ -37,7 +37,7 @@ empty_d t i e = ap (λ es. is_given es i) e
 
 module _ (t t' : Entries) (x : ℚ) (none : t.d ≡ []) (e : t' ≡ with_d t 0 x) where
   d_is : t'.d ≡ put_value 0 x []
-  d_is = ap (λ (u : Entries). u.d) (e ∙ d-is t 0 x) ∙ ap (put_value 0 x) none
+  d_is = ap (λ (u : Entries). u.d) (e ∙ with_d-is t 0 x) ∙ ap (put_value 0 x) none
 
   d_at : (i : ℕ) → value_of t'.d i ≡ when (eqb i 0) x
   unfolding value_of is_given when
@@ -61,7 +61,7 @@ module _ (t t' : Entries) (x : ℚ) (none : t.d ≡ []) (e : t' ≡ with_d t 0 x
 
   pub both_d : (t″ : Entries) (y : ℚ) → t″ ≡ with_d t' 1 y → FillsD x y t″
   unfolding FillsD looked_up when
-  both_d t″ y e' = λ i p. ap (λ (u : Entries). value_of u.d i) (e' ∙ d-is t' 1 y) ∙ put_value_at t'.d 1 y i free_d (d_at 1) ∙ ap (cond (eqb i 1) y) (d_at i) ∙ sum i
+  both_d t″ y e' = λ i p. ap (λ (u : Entries). value_of u.d i) (e' ∙ with_d-is t' 1 y) ∙ put_value_at t'.d 1 y i free_d (d_at 1) ∙ ap (cond (eqb i 1) y) (d_at i) ∙ sum i
     where
       sum : (i : ℕ) → cond (eqb i 1) y (when (eqb i 0) x) ≡ when (eqb i 0) x +ℚ when (eqb i 1) y
       sum zero = sym (0ℚ_idr x)

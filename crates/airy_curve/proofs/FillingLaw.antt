@@ -15,14 +15,15 @@ use Rattle.sparse_tensor.specs.Grades.{AreEntries}
 use Rattle.sparse_tensor.specs.Puts.{with_b, with_c}
 use Rattle.sparse_tensor.proofs.EntryLemmas.{free_from_zero}
 use Rattle.sparse_tensor.proofs.PutLaw.{with_b-zero, with_c-zero}
-use Rattle.sparse_tensor.proofs.SoundLaw.{is_zero-0ℚ}
+use Rattle.sparse_tensor.proofs.SoundLaw.{is_zero-0ℚ, is_zero-of}
 use Rattle.airy_curve.specs.Filling.{entry_b, entry_c, exponent_of, Fits, IsFilled, IsPlace, Tells}
 use Rattle.airy_curve.specs.Steps.{unless_obtained, where_so, place_refusal, row_refusal, plane_refusal, entry_refusal}
 use Rattle.airy_curve.specs.Storing.{Names}
 use Rattle.airy_curve.specs.declared.making.CurveErr.{CurveErr}
 use Rattle.airy_curve.specs.declared.making.CurveErr.TheVariants.{Over, NoMemory}
-use Rattle.airy_curve.proofs.PutLemmas.{b-is, c-is, put_at, put_list, same_parts, zero_is}
+use Rattle.airy_curve.proofs.PutLemmas.{b-is, c-is, put_at, put_list, same_parts}
 use Rattle.airy_curve.proofs.StepLemmas.{first_is, first_none}
+use Rattle.airy_math.proofs.KeyLemmas.{ltb-self}
 
 -- ---- the exponent of a place
 
@@ -75,11 +76,11 @@ place-at f most i j k = by (leb (i + j) (k + 1) && leb e most)
 -- where there is no exponent, nothing is put
 pub none_b : (f : ℕ → ℚ) (most i j k : ℕ) (t : Entries) → exponent_of (k + 1) (i + j) most ≡ None → t ≡ with_b t i j k (entry_b f most i j k)
 unfolding entry_b
-none_b f most i j k t h = with_b-zero t i j k _ (zero_is _ (ap (λ x. whole (2 * j + 1) *ℚ x) (entry-at f most (k + 1) (i + j) ∙ ap (at f) h) ∙ *ℚ-0ℚ _))
+none_b f most i j k t h = with_b-zero t i j k _ (is_zero-of _ (ap (λ x. whole (2 * j + 1) *ℚ x) (entry-at f most (k + 1) (i + j) ∙ ap (at f) h) ∙ *ℚ-0ℚ _))
 
 pub none_c : (f : ℕ → ℚ) (most i j k : ℕ) (t : Entries) → exponent_of (j + k + 2) i most ≡ None → t ≡ with_c t i j k (entry_c f most i j k)
 unfolding entry_c
-none_c f most i j k t h = with_c-zero t i j k _ (zero_is _ (entry-at f most (j + k + 2) i ∙ ap (at f) h))
+none_c f most i j k t h = with_c-zero t i j k _ (is_zero-of _ (entry-at f most (j + k + 2) i ∙ ap (at f) h))
 
 -- ---- places in order
 
@@ -94,9 +95,6 @@ Fills dim g p es = (i j k : ℕ) → i < dim → j < dim → k < dim → value_a
 -- the entries of C stand where j is at most k
 abbrev pub ordered : (ℕ → ℕ → ℕ → ℚ) → ℕ → ℕ → ℕ → ℚ
 ordered g i j k = when (leb j k) (g i j k)
-
-ltb-self : (p : ℕ) → ltb p p ≡ false
-ltb-self p = grind (arith, nat_tests)
 
 other : (dim i j k a b c : ℕ) → dim ≤ 72 → j < dim → k < dim → b < dim → c < dim → (eqb a i && eqb b j && eqb c k) ≡ false → ltb (place a b c) (place i j k) ≡ ltb (place a b c) (place i j k + 1)
 other dim i j k a b c d q r q' r' h = grind (arith, nat_tests)

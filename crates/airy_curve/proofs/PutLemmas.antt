@@ -13,14 +13,11 @@ use Rattle.sparse_tensor.specs.Entries.{Entry, Entries, is_given, is_taken, same
 use Rattle.sparse_tensor.specs.Grades.{keeps, keeps_b, keeps_c, keeps_d}
 use Rattle.sparse_tensor.specs.Puts.{IsAllowed, are_inside, putting, putting_b, putting_c, putting_d, with_b, with_c, with_d}
 use Rattle.sparse_tensor.proofs.EntryLemmas.{value_at-with_entry}
-use Rattle.sparse_tensor.proofs.SoundLaw.{is_zero-0ℚ}
+use Rattle.sparse_tensor.proofs.SoundLaw.{is_zero-of}
 use Rattle.airy_curve.specs.Filling.{Fits, FitsD, HasRoom, IsPlace}
 use Rattle.sparse_tensor.proofs.PutFacts.{inside}
 
 -- ---- what may be put
-
-pub zero_is : (v : ℚ) → v ≡ 0ℚ → is_zero v ≡ true
-zero_is v e = ap is_zero e ∙ is_zero-0ℚ
 
 may : (inside zero graded taken : Bool) → inside ≡ true → (zero ≡ true) ⊎ (graded ≡ true) → taken ≡ false → IsAllowed (putting inside zero graded taken)
 unfolding putting IsAllowed
@@ -37,7 +34,7 @@ module _ (f : ℕ → ℚ) (most : ℕ) (t : Entries) (i j k e : ℕ) (v : ℚ) 
   may_b low none free = may (are_inside t.dim i j k) (is_zero v) (keeps_b t.shape i j k) _ (inside t.dim i j k at.first at.second at.third) (room (at.fits e high)) free
     where
       room : (f e ≡ 0ℚ) ⊎ HasRoom t.shape e → (is_zero v ≡ true) ⊎ (keeps_b t.shape i j k ≡ true)
-      room (inl z) = inl (zero_is v (none z))
+      room (inl z) = inl (is_zero-of v (none z))
       room (inr h) = inr (moved t.shape (pos (i + j) -ℤ pos k) (pos (1 + 0) -ℤ pos e) (per_n t.shape) (omega (arith, ints)) h.b)
 
   pub may_c : i + e ≡ j + k + 2 → j ≤ k → v ≡ f e → is_taken t.c i j k ≡ false → IsAllowed (putting_c t i j k v)
@@ -48,7 +45,7 @@ module _ (f : ℕ → ℚ) (most : ℕ) (t : Entries) (i j k e : ℕ) (v : ℚ) 
       may (are_inside t.dim i j k) (is_zero v) (keeps_c t.shape i j k) _ (inside t.dim i j k at.first at.second at.third) (room (at.fits e high)) (ap₂ (is_taken t.c i) least greatest ∙ free)
     where
       room : (f e ≡ 0ℚ) ⊎ HasRoom t.shape e → (is_zero v ≡ true) ⊎ (keeps_c t.shape i j k ≡ true)
-      room (inl z) = inl (zero_is v (value ∙ z))
+      room (inl z) = inl (is_zero-of v (value ∙ z))
       room (inr h) = inr (moved t.shape (pos i -ℤ pos (j + k)) (pos 2 -ℤ pos (0 + e)) _ (omega (arith, ints)) h.c')
 
 pub may_d : (t : Entries) (i : ℕ) (v : ℚ) → i < t.dim → FitsD t.shape i v → is_given t.d i ≡ false → IsAllowed (putting_d t i v)
@@ -56,7 +53,7 @@ unfolding putting_d FitsD
 may_d t i v p fits free = may (ltb i t.dim) (is_zero v) (keeps_d t.shape i) _ (grind (arith, nat_tests)) (room fits) free
   where
     room : (v ≡ 0ℚ) ⊎ (keeps_d t.shape i ≡ true) → (is_zero v ≡ true) ⊎ (keeps_d t.shape i ≡ true)
-    room (inl z) = inl (zero_is v z)
+    room (inl z) = inl (is_zero-of v z)
     room (inr h) = inr h
 
 -- ---- what a put leaves
@@ -80,14 +77,6 @@ c-is t i j k v ordered = by (is_zero v) (min j k) (max j k) (omega arith) (omega
     by : (z : Bool) (m n : ℕ) → m ≡ j → n ≡ k → cond z t (record t { c = with_entry (record { i = i; j = m; k = n; v = v }) t.c }) ≡ record t { c = cond z t.c (with_entry (record { i = i; j = j; k = k; v = v }) t.c) }
     by true m n p q = refl
     by false m n p q = ap₂ (λ a b. record t { c = with_entry (record { i = i; j = a; k = b; v = v }) t.c }) p q
-
-pub d-is : (t : Entries) (i : ℕ) (v : ℚ) → with_d t i v ≡ record t { d = cond (is_zero v) t.d (with_value i v t.d) }
-unfolding with_d
-d-is t i v = by (is_zero v)
-  where
-    by : (z : Bool) → cond z t (record t { d = with_value i v t.d }) ≡ record t { d = cond z t.d (with_value i v t.d) }
-    by true = refl
-    by false = refl
 
 pub same_parts : (a b c : ℕ) (x : Entry) → same_place a b c x ≡ true → (a ≡ x.i) × (b ≡ x.j) × (c ≡ x.k)
 unfolding same_place

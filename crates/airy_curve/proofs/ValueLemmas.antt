@@ -24,11 +24,6 @@ pub whole-some : (n : ℕ) → is_zero (whole (suc n)) ≡ false
 unfolding whole 0ℚ
 whole-some n = is_zero-some (pos (suc n) /ℚ 1) (λ e. let none = (lowest_zero (pos (suc n)) 1 (lowest_whole (pos (suc n)))).0 e in cc)
 
-pub when-zero : (b : Bool) (x : ℚ) → x ≡ 0ℚ → when b x ≡ 0ℚ
-unfolding when
-when-zero true x h = h
-when-zero false x h = refl
-
 pub cond-false : (b : Bool) (x y : ℚ) → b ≡ false → cond b x y ≡ y
 cond-false true x y h = cc
 cond-false false x y h = refl

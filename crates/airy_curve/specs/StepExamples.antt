@@ -6,11 +6,13 @@ use lib.IntN.{pos, negsuc}
 use Rattle.std.specs.Prelude.{Some, None}
 use Rattle.airy_math.specs.Rational.{◌/ℚ◌}
 use Rattle.airy_math.specs.CutExamples.{curve_computes}
-use Rattle.airy_curve.specs.Steps.{obtained_products, negative, next_number, unless_obtained, or_else, where_so, first_answer, number_refusal, place_refusal, tensors_refusal, curve_refusal}
+use Rattle.airy_curve.specs.Steps.{obtained_products, negative, next_number, unless_obtained, or_else, where_so}
+use Rattle.airy_curve.specs.Steps.{first_answer, number_refusal, place_refusal, tensors_refusal, curve_refusal}
 use Rattle.airy_math.specs.Curves.{of_list}
 
 unfoldable pub steps_compute : ℕ → ℕ
-unfolding obtained_products negative next_number unless_obtained or_else where_so first_answer number_refusal place_refusal tensors_refusal curve_refusal
+unfolding obtained_products negative next_number unless_obtained or_else where_so first_answer number_refusal place_refusal
+    tensors_refusal curve_refusal
 steps_compute n = n
 
 -- the list -2/3, 2/15 up to the Euler number 2

@@ -147,8 +147,8 @@ pub fn top_of_curve(bound: u8) -> u8
 }
 
 /// Those of a curve that a table up to the bound needs: all indices and all exponents up to its top. The bound is from 1 to 24.
-/// What they leave out of the whole curve stands, up to the bound, only in terms with a factor that is 0 (`relation_law::curve_is_cut`). They
-/// meet the five relations in all places below N, for every N with 2N + 1 at most the top.
+/// What they leave out of the whole curve stands, up to the bound, only in terms with a factor that is 0
+/// (`relation_law::curve_is_cut`). They meet the five relations in all places below N, for every N with 2N + 1 at most the top.
 pub fn curve(alloc: Global, bound: u8, u: &[Frac]) -> Result<Tensors, CurveErr>
     requires some { 0 < bound }
     requires most { bound ≤ 24 }

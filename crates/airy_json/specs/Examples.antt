@@ -16,11 +16,19 @@ use Rattle.tensor_text.specs.Examples.{text_computes}
 use Rattle.amp_plan.specs.Needs.{has, named_ranks, needs_rank, needed, need_counts, first_past}
 use Rattle.amp_plan.specs.Limits.{limit, past}
 use Rattle.serde_json.proofs.OnLiterals.{serde_json_on_literals}
-use Rattle.airy_json.specs.Reading.{named, text, kind_of, kind_text, kind_tensors, making_over, count, three, whole, whole_at, array_at, string_at, form_with, form_of, is_whole, are_indices, are_indices_at, is_cell_of, cell_value, first_bad, with_value, cell_values, NoJson, BadForm, BadKind, BadBound, BadCell, Gives, cells_answer, plan_answer, made_answer, bound_answer, kind_answer, form_answer, data_answer, json_of, answer_of}
+use Rattle.airy_json.specs.Reading.{named, text, kind_of, kind_text, kind_tensors, making_over, count, three}
+use Rattle.airy_json.specs.Reading.{whole, whole_at, array_at, string_at, form_with, form_of, is_whole}
+use Rattle.airy_json.specs.Reading.{are_indices, are_indices_at, is_cell_of, cell_value, first_bad, with_value}
+use Rattle.airy_json.specs.Reading.{cell_values, NoJson, BadForm, BadKind, BadBound, BadCell, Gives, cells_answer}
+use Rattle.airy_json.specs.Reading.{plan_answer, made_answer, bound_answer, kind_answer, form_answer, data_answer, json_of, answer_of}
 
 -- To name this on an `unfolding` line opens the reading of a document there, for `refl` at documents.
 unfoldable pub document_computes : ℕ → ℕ
-unfolding computes text_computes serde_json_on_literals chars is_utf8 top_wk top_bgw wp_cut bgw needs place_of key_at no_key planned_tensors looked_up has named_ranks needs_rank needed need_counts first_past limit past kind_of kind_text kind_tensors making_over count three whole whole_at array_at string_at form_with form_of is_whole are_indices are_indices_at is_cell_of cell_value first_bad with_value cell_values cells_answer plan_answer made_answer bound_answer kind_answer form_answer data_answer json_of answer_of
+unfolding computes text_computes serde_json_on_literals chars is_utf8 top_wk top_bgw wp_cut bgw needs place_of key_at no_key
+    planned_tensors looked_up has named_ranks needs_rank needed need_counts first_past limit past kind_of kind_text kind_tensors
+    making_over count three whole whole_at array_at string_at form_with form_of is_whole are_indices are_indices_at is_cell_of cell_value
+    first_bad with_value cell_values cells_answer plan_answer made_answer bound_answer kind_answer form_answer data_answer json_of
+    answer_of
 document_computes n = n
 
 -- the table of wk up to 1

@@ -8,15 +8,16 @@ use Rattle.amp_plan.specs.Plans.{Planning, keys_of}
 use Rattle.amp_plan.specs.Limits.{PassesCells, PassesNeeds}
 use Rattle.amp_plan.specs.declared.cause.PlanCause.{PlanCause}
 use Rattle.amp_plan.specs.declared.cause.PlanCause.TheVariants as cause
-use Rattle.airy_json.specs.Reading.{Kind, IsPlanOf, Answer, Long, NoJson, BadForm, BadKind, BadBound, Unmade, Unplanned, BadCell, Gives, answer_of}
+use Rattle.airy_json.specs.Reading.{Kind, IsPlanOf, Answer, Long, NoJson, BadForm, BadKind}
+use Rattle.airy_json.specs.Reading.{BadBound, Unmade, Unplanned, BadCell, Gives, answer_of}
 use Rattle.airy_json.specs.declared.refusals.JsonErr.{JsonErr}
 use Rattle.airy_json.specs.declared.refusals.JsonErr.TheVariants as json
 use Rattle.airy_json.specs.declared.reading.Given.{Given}
 
 -- ---- what an answer of the code says
 
--- The plan is that of the kind and the bound that are given, which is above 0, and the values are those that are given, one for each planned
--- key.
+-- The plan is that of the kind and the bound that are given, which is above 0, and the values are those that are given, one for each
+-- planned key.
 pub record IsGiven (plan : Planning) (values : List ℚ) (answer : Answer) : Type 0 where
   pub kind : Kind
   pub gives : answer ≡ Gives kind plan.bound values

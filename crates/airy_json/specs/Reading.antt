@@ -1,5 +1,6 @@
 -- What reading a document of a table gives.
-use Rattle.std.specs.Prelude.{◌≡◌, ℕ, suc, List, [], ◌∷◌, ◌&&◌, Bool, true, false, ◌==◌, cond, length, nat_lt, nat_le, Option, Some, None, option_map, option_and_then, is_some, codes}
+use Rattle.std.specs.Prelude.{◌≡◌, ℕ, suc, List, [], ◌∷◌, ◌&&◌, Bool, true, false, ◌==◌, cond, length}
+use Rattle.std.specs.Prelude.{nat_lt, nat_le, Option, Some, None, option_map, option_and_then, is_some, codes}
 use Rattle.std.specs.Str.{bytes_eq, is_utf8}
 use Rattle.airy_math.specs.Rational.{ℚ}
 use Rattle.airy_math.specs.Keys.{Key}

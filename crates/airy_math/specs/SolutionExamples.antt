@@ -51,7 +51,8 @@ unfolding computes wk_3_series at_place
 residue_two = refl
 
 -- and where one coefficient is another, the residue isn't 0
-residue_wrong : residue (wk 4) (λ g e. wk_3_series g e +ℚ at_place (pos 1 /ℚ 2) 1 (0 ∷ 1 ∷ 0 ∷ 0 ∷ 0 ∷ []) g e) 1 1 (0 ∷ 0 ∷ 0 ∷ 0 ∷ 0 ∷ []) ≡ pos 1 /ℚ 2
+residue_wrong : residue (wk 4) (λ g e. wk_3_series g e +ℚ at_place (pos 1 /ℚ 2) 1 (0 ∷ 1 ∷ 0 ∷ 0 ∷ 0 ∷ []) g e) 1 1 (0 ∷ 0 ∷ 0 ∷ 0 ∷ 0 ∷ [])
+    ≡ pos 1 /ℚ 2
 unfolding computes wk_3_series at_place
 residue_wrong = refl
 
@@ -68,8 +69,10 @@ closed = record {
   dim = 2;
   shape = All;
   A = λ i j k. (pos 3 /ℚ 1) +ℚ entry 1ℚ 1 1 1 i j k;
-  B = λ i j k. entry (pos 2 /ℚ 1) 0 0 0 i j k +ℚ entry (pos 2 /ℚ 1) 0 1 0 i j k +ℚ entry (pos 2 /ℚ 1) 1 0 0 i j k +ℚ entry 1ℚ 1 1 0 i j k +ℚ entry 1ℚ 1 1 1 i j k;
-  C = λ i j k. entry 1ℚ 0 0 0 i j k +ℚ entry (pos 2 /ℚ 1) 1 0 0 i j k +ℚ entry (negsuc 0 /ℚ 1) 1 0 1 i j k +ℚ entry (negsuc 0 /ℚ 1) 1 1 0 i j k +ℚ entry 1ℚ 1 1 1 i j k;
+  B = λ i j k. entry (pos 2 /ℚ 1) 0 0 0 i j k +ℚ entry (pos 2 /ℚ 1) 0 1 0 i j k +ℚ entry (pos 2 /ℚ 1) 1 0 0 i j k
+      +ℚ entry 1ℚ 1 1 0 i j k +ℚ entry 1ℚ 1 1 1 i j k;
+  C = λ i j k. entry 1ℚ 0 0 0 i j k +ℚ entry (pos 2 /ℚ 1) 1 0 0 i j k +ℚ entry (negsuc 0 /ℚ 1) 1 0 1 i j k
+      +ℚ entry (negsuc 0 /ℚ 1) 1 1 0 i j k +ℚ entry 1ℚ 1 1 1 i j k;
   D = λ i. when (eqb i 0) (pos 1 /ℚ 4) +ℚ when (eqb i 1) (pos 3 /ℚ 8);
 }
 
@@ -78,20 +81,30 @@ unfolding computes closed entry rel_AA rel_BA rel_BB rel_BC rel_D differences al
 closed_closes = refl
 
 -- the five expressions at places where none is 0
-closed_values : rel_AA closed 0 1 1 ∷ rel_BA closed 0 1 1 1 ∷ rel_BB closed 0 1 1 0 ∷ rel_BC closed 0 1 0 0 ∷ rel_D closed 0 1 ∷ [] ≡ (pos 3 /ℚ 1) ∷ (pos 18 /ℚ 1) ∷ (pos 11 /ℚ 1) ∷ (pos 6 /ℚ 1) ∷ (pos 2 /ℚ 1) ∷ []
+closed_values : rel_AA closed 0 1 1 ∷ rel_BA closed 0 1 1 1 ∷ rel_BB closed 0 1 1 0 ∷ rel_BC closed 0 1 0 0 ∷ rel_D closed 0 1 ∷ []
+    ≡ (pos 3 /ℚ 1) ∷ (pos 18 /ℚ 1) ∷ (pos 11 /ℚ 1) ∷ (pos 6 /ℚ 1) ∷ (pos 2 /ℚ 1) ∷ []
 unfolding computes closed entry rel_AA rel_BA rel_BB rel_BC rel_D
 closed_values = refl
 
 -- B^0_10 = 2 and B^1_11 = 1 alone: for i = 0 and j = 1 the relation BB differs at k = 1, l = 0 and nowhere else; the other
 -- four have no entry to stand on
 unfoldable pub broken : Tensors
-broken = record { dim = 2; shape = All; A = λ i j k. 0ℚ; B = λ i j k. entry (pos 2 /ℚ 1) 0 1 0 i j k +ℚ entry 1ℚ 1 1 1 i j k; C = λ i j k. 0ℚ; D = λ i. 0ℚ }
+broken = record {
+  dim = 2;
+  shape = All;
+  A = λ i j k. 0ℚ;
+  B = λ i j k. entry (pos 2 /ℚ 1) 0 1 0 i j k +ℚ entry 1ℚ 1 1 1 i j k;
+  C = λ i j k. 0ℚ;
+  D = λ i. 0ℚ;
+}
 
-broken_left : rel_BB broken 0 1 0 0 ∷ rel_BB broken 0 1 0 1 ∷ rel_BB broken 0 1 1 0 ∷ rel_BB broken 0 1 1 1 ∷ [] ≡ 0ℚ ∷ 0ℚ ∷ (pos 4 /ℚ 1) ∷ 0ℚ ∷ []
+broken_left : rel_BB broken 0 1 0 0 ∷ rel_BB broken 0 1 0 1 ∷ rel_BB broken 0 1 1 0 ∷ rel_BB broken 0 1 1 1 ∷ []
+    ≡ 0ℚ ∷ 0ℚ ∷ (pos 4 /ℚ 1) ∷ 0ℚ ∷ []
 unfolding computes broken entry rel_BB
 broken_left = refl
 
-broken_right : rel_BB broken 1 0 0 0 ∷ rel_BB broken 1 0 0 1 ∷ rel_BB broken 1 0 1 0 ∷ rel_BB broken 1 0 1 1 ∷ [] ≡ 0ℚ ∷ 0ℚ ∷ (pos 2 /ℚ 1) ∷ 0ℚ ∷ []
+broken_right : rel_BB broken 1 0 0 0 ∷ rel_BB broken 1 0 0 1 ∷ rel_BB broken 1 0 1 0 ∷ rel_BB broken 1 0 1 1 ∷ []
+    ≡ 0ℚ ∷ 0ℚ ∷ (pos 2 /ℚ 1) ∷ 0ℚ ∷ []
 unfolding computes broken entry rel_BB
 broken_right = refl
 

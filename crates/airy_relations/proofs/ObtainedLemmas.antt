@@ -3,24 +3,15 @@ use Rattle.std.proofs.Common.{ℕ, ◌<◌, ◌^◌, ◌≡◌, refl, ◌∙◌,
 use lib.IntN.{*ℤ-one, *ℤ_comm, +ℤ_comm, +ℤ_idl}
 use Rattle.std.proofs.lemmas.Bool.{lt-ltb}
 use Rattle.airy_math.specs.Gcd.{gcd, IsGcd-gcd}
-use Rattle.airy_math.specs.Rational.{ℚ, ℚ_computes}
+use Rattle.airy_math.specs.Rational.{ℚ, ℚ_computes, gcd_one, one_gcd}
 use Rattle.airy_math.specs.RationalLaws.{0ℚ, 0ℚ_idl, 0ℚ-*ℚ}
 use Rattle.airy_math.specs.Obtained.{fits, IsInRange, obtained_sum, obtained_product, both_obtained, obtained_from}
 use Rattle.airy_math.proofs.SumLemmas.{0ℚ_idr, *ℚ-0ℚ}
-
-gcd_one : (n : ℕ) → gcd n 1 ≡ 1
-gcd_one n = native.Mathlib.Nat.dvd_antisymm (IsGcd-gcd n 1).1 (native.Mathlib.Nat.one-dvd (gcd n 1))
-
-one_gcd : (n : ℕ) → gcd 1 n ≡ 1
-one_gcd n = native.Mathlib.Nat.dvd_antisymm (IsGcd-gcd 1 n).0 (native.Mathlib.Nat.one-dvd (gcd 1 n))
+use Rattle.airy_math.proofs.IntLemmas.{*ℤ-one'}
 
 fits-lem : (z : ℤ) → nat_abs z < 2 ^ 127 → fits z ≡ true
 unfolding fits
 fits-lem z h = lt-ltb _ _ h
-
-times_one : (z : ℤ) → z *ℤ pos 1 ≡ z
-unfolding lib.IntN.one
-times_one z = *ℤ-one z
 
 plus_zero : (z : ℤ) → z +ℤ pos 0 ≡ z
 plus_zero z = +ℤ_comm z (pos 0) ∙ +ℤ_idl z
@@ -43,7 +34,7 @@ unfolding obtained_sum
 sum_zero x h =
     let num = fits-lem x.num h.num in
     let den = fits-lem (pos x.den) h.den in
-    simp (den_zero, num_zero, gcd_one, times_one, native.Mathlib.Nat.zero-mul, plus_zero, native.Mathlib.Nat.div-one, native.Mathlib.Nat.mul-one, num, den, fits_zero, 0ℚ_idr)
+    simp (den_zero, num_zero, gcd_one, *ℤ-one', native.Mathlib.Nat.zero-mul, plus_zero, native.Mathlib.Nat.div-one, native.Mathlib.Nat.mul-one, num, den, fits_zero, 0ℚ_idr)
 
 -- a number in range is what it gives added to 0
 pub zero_sum : (x : ℚ) → IsInRange x → obtained_sum 0ℚ x ≡ Some x
@@ -51,7 +42,7 @@ unfolding obtained_sum
 zero_sum x h =
     let num = fits-lem x.num h.num in
     let den = fits-lem (pos x.den) h.den in
-    simp (den_zero, num_zero, one_gcd, gcd_one, times_one, native.Mathlib.Nat.zero-mul, +ℤ_idl, native.Mathlib.Nat.div-one, native.Mathlib.Nat.one-mul, num, den, fits_zero, 0ℚ_idl)
+    simp (den_zero, num_zero, one_gcd, gcd_one, *ℤ-one', native.Mathlib.Nat.zero-mul, +ℤ_idl, native.Mathlib.Nat.div-one, native.Mathlib.Nat.one-mul, num, den, fits_zero, 0ℚ_idl)
 
 zero_fits : cond (fits 0ℚ.num && fits (pos 0ℚ.den)) (Some 0ℚ) None ≡ Some 0ℚ
 unfolding fits 0ℚ ℚ_computes

@@ -12,6 +12,7 @@ use Rattle.airy_relations.proofs.VerdictLemmas.{from_zero}
 use Rattle.airy_math.proofs.EachLemmas.{each-cong, each-count_append, each-each, each-map, each-none, keep-singles}
 use Rattle.airy_math.proofs.SamePlanLaw.{each-cong_each}
 use Rattle.airy_math.proofs.SumLemmas.{Each, Each-below, Each-count}
+use Rattle.airy_math.proofs.KeyLemmas.{eqb-self}
 
 -- ---- a row, entry by entry
 
@@ -70,9 +71,6 @@ past_behind : (a n : ℕ) (row : List (ℕ × ℚ)) → a < front n row → behi
 past_behind a n [] h = refl
 past_behind a n (e ∷ es) h = ap (λ t. cond t es (e ∷ es)) (ne_eqb e.0 a (λ q. omega arith))
 
-self_eq : (a : ℕ) → eqb a a ≡ true
-self_eq a = eq-eqb a a refl
-
 -- What a row gives at the index where it begins: the value there, and the row behind it.
 pub record Gives (f : ℕ → ℚ) (a n : ℕ) (row : List (ℕ × ℚ)) : Type 0 where
   pub value : first_at a row ≡ f a
@@ -90,8 +88,8 @@ row_gives f a n l = by (is_zero (f a)) refl (row_from f (n - suc a) (suc a) n re
       rest = past_behind a n (row_of f (suc a) n) w ∙ next;
     })
     by false z w = subst (Gives f a n) (sym (row_one f a n false l z)) (record {
-      value = ap (λ t. cond t (f a) 0ℚ) (self_eq a);
-      rest = ap (λ t. cond t (row_of f (suc a) n) ((a, f a) ∷ row_of f (suc a) n)) (self_eq a) ∙ next;
+      value = ap (λ t. cond t (f a) 0ℚ) (eqb-self a);
+      rest = ap (λ t. cond t (row_of f (suc a) n) ((a, f a) ∷ row_of f (suc a) n)) (eqb-self a) ∙ next;
     })
 
 -- Where a row begins d numbers behind a or later, these numbers have the value 0, and the row goes on behind them.

@@ -11,13 +11,15 @@ use Rattle.airy_math.specs.declared.Shape.TheVariants.{All}
 use Rattle.airy_math.specs.Tensors.{Tensors, same_number}
 use Rattle.airy_math.specs.Named.{wk, bgw}
 use Rattle.airy_math.specs.Examples.{computes}
-use Rattle.airy_relations.specs.Sides.{AA, BB, D, at_BA, at_BB, at_BC, at_D, of_pair, products, product_value, obtained_value, obtained_side}
+use Rattle.airy_relations.specs.Sides.{AA, BB, D, at_BA, at_BB, at_BC, at_D, of_pair}
+use Rattle.airy_relations.specs.Sides.{products, product_value, obtained_value, obtained_side}
 use Rattle.airy_relations.specs.Places.{indices, choices_k, choices_l, from_to, places_of, places}
 use Rattle.airy_relations.specs.Verdicts.{Closed, Differs, Over, compared, verdict_at, or_later, first_over, verdict}
 
 -- To name this on an `unfolding` line opens the definitions of verdicts, too.
 unfoldable pub verdicts_compute : ℕ → ℕ
-unfolding computes at_BA at_BB at_BC at_D of_pair products product_value obtained_value obtained_side indices choices_k choices_l from_to places_of places same_number compared verdict_at or_later first_over verdict
+unfolding computes at_BA at_BB at_BC at_D of_pair products product_value obtained_value obtained_side indices choices_k choices_l
+    from_to places_of places same_number compared verdict_at or_later first_over verdict
 verdicts_compute n = n
 
 wk_closed : verdict (wk 6) 3 ≡ Closed

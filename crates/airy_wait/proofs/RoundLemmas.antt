@@ -10,7 +10,7 @@ use Rattle.cell_words.specs.declared.countdown.Countdown.{Countdown}
 use Rattle.cell_words.specs.declared.countdown.CountSeat.{CountSeat}
 use Rattle.ask_seats.specs.Counts.{Knows}
 use Rattle.airy_wait.specs.Waits.{FillsInOrder, RisesIn}
-use Rattle.fill_crew.proofs.CrewLemmas.{worked_more}
+use Rattle.fill_crew.proofs.CrewLemmas.{worked_more, holds_none}
 
 -- a step that leaves the seat's number, what it holds and its receipts
 pub worked_looked : (b : Countdown) (s t u : CountSeat) → HasWorked b s t → IsSeatOf b u → standing_of u ≡ standing_of t → ((r : ℕ) → Knows t r → Knows u r) → HasWorked b s u
@@ -20,13 +20,6 @@ worked_looked b s t u h seat same keeps =
 -- a run behind a run
 pub worked_again : (b : Countdown) (s t u : CountSeat) → HasWorked b s t → HasWorked b t u → HasWorked b s u
 worked_again b s t u h k = worked_more b s t u k.more h (k.back.seat, k.back.held) k.back.number k.done k.keeps
-
--- who doesn't claim a cell holds none
-pub holds_none : (p : Planning) (r : ℕ) (old new : View) (held : Option ℕ) (x : Claim) → Claims p r old new held x → (x ≡ Mine → ⊥) → held ≡ None
-holds_none p r old new held Mine c other = absurd (other refl)
-holds_none p r old new held (Needs n) c other = c.0
-holds_none p r old new held Taken c other = c.0
-holds_none p r old new held Done c other = c.0
 
 -- a claim that wasn't granted
 pub worked_claimed : (b : Countdown) (r : ℕ) (s t u : CountSeat) (x : Claim) → HasWorked b s t → IsSeatOf b u → u.number ≡ t.number → u.done.items ≡ t.done.items

@@ -7,7 +7,7 @@ use Rattle.cell_words.specs.Looks.{Reaches}
 use Rattle.ask_seats.specs.Sessions.{told, told_at, is_rank}
 use Rattle.ask_seats.specs.Asks.{reply_at}
 use Rattle.ask_seats.specs.Talks.{told_of, KnowsAll}
-use Rattle.ask_seats.proofs.PlaceLemmas.{same_place}
+use Rattle.ask_seats.proofs.PlaceLemmas.{same_place, one_rank}
 
 pub told_at_place : (p : Planning) (key : Key) (x : Place) → place_in p key ≡ x → told_at (tensors_of p) p.tensors.letter p.bound key x ≡ told_of p key
 unfolding told
@@ -18,9 +18,6 @@ pub told_outcome : (p : Planning) (key : Key) (r : ℕ) → place_in p key ≡ p
 unfolding told_at outcome_at
 told_outcome p key r e = told_at_place p key (place.At r) e
 
-one_rank : (a b : ℕ) → place.At a ≡ place.At b → a ≡ b
-one_rank a b e = cc
-
 -- what is known with a rank is known with its key
 pub knows_rank : (p : Planning) (key : Key) (r : ℕ) (Knows : ℕ → Type 0) → place_in p key ≡ place.At r → ((q : ℕ) → q < cells p → Reaches p r q → Knows q) → KnowsAll p key Knows
 knows_rank p key r Knows e known s q at low reach = known q low (subst (λ t. Reaches p t q) (one_rank s r (sym at ∙ e)) reach)
@@ -29,8 +26,3 @@ knows_rank p key r Knows e known s q at low reach = known q low (subst (λ t. Re
 pub knows_none : (p : Planning) (key : Key) (x : Place) (Knows : ℕ → Type 0) → place_in p key ≡ x → is_rank x ≡ false → KnowsAll p key Knows
 unfolding is_rank
 knows_none p key x Knows e none r q at low reach = let clash : true ≡ false = ap is_rank (sym at ∙ e) ∙ none in cc
-
--- a key with a rank has one
-pub no_idle : (x : Place) (r : ℕ) → x ≡ place.At r → is_rank x ≡ false → ⊥
-unfolding is_rank
-no_idle x r e f = let clash : true ≡ false = sym (ap is_rank e) ∙ f in cc

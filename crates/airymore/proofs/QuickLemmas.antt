@@ -9,6 +9,7 @@ use Rattle.series_law.specs.First.{HaveValues}
 use Rattle.airy_exists.specs.Agreement.{answer_at}
 use Rattle.airy_exists.specs.declared.ends.Agreed.TheVariants.{Solution, NotValue}
 use Rattle.command_words.proofs.ScriptLemmas.{bound_some}
+use Rattle.amp_terms.proofs.TableLemmas.{values_there}
 
 -- ---- what the plan leads to
 
@@ -54,19 +55,6 @@ pub record QuickLaws : Type 0 where
   pub pivots : EveryPivotLaw
   pub own : OwnTensorsLaw
 
--- where no rank is the first without a Value, each has one
-values_in : (os : List Outcome) → first_without (map Some os) ≡ None → (r : ℕ) → r < length os → (w : ℚ) × (get_or os r Over ≡ Value w)
-unfolding first_without next_rank
-values_in [] e r h = absurd (omega arith)
-values_in (Value v ∷ os) e zero h = (v, refl)
-values_in (Value v ∷ os) e (suc r) h = values_in os (never_next (first_without (map Some os)) e) r (omega arith)
-  where
-    never_next : (o : Option ℕ) → next_rank o ≡ None → o ≡ None
-    never_next None e = refl
-    never_next (Some s) e = let clash : Some (suc s) ≡ None = e in cc
-values_in (Over ∷ os) e r h = let clash : Some 0 ≡ None = e in cc
-values_in (Blocked s ∷ os) e r h = let clash : Some 0 ≡ None = e in cc
-
 module _ (t : Entries) (X : ℕ) where
   abbrev s : Structure
   s = text_structure t
@@ -79,7 +67,7 @@ module _ (t : Entries) (X : ℕ) where
 
   there : first_without (full_table (looked_up t) X) ≡ None → (r : ℕ) → r < length (planned (looked_up t) X) → (w : ℚ) × (get_or (outcomes (looked_up t) X) r Over ≡ Value w)
   unfolding full_table
-  there none r h = values_in (outcomes (looked_up t) X) none r (omega (arith, length-outcomes (looked_up t) X))
+  there none r h = values_there (outcomes (looked_up t) X) none r (omega (arith, length-outcomes (looked_up t) X))
 
   values : first_without (full_table (looked_up t) X) ≡ None → HasValues (looked_up t) X
   unfolding HaveValues has_value

@@ -1,5 +1,6 @@
 -- What is printed of a curve, and what it says of every solution of the curve's differential constraints.
-use Rattle.std.specs.Prelude.{◌≡◌, ◌≢◌, ◌⊎◌, ℕ, suc, ◌+◌, ◌*◌, ◌<◌, ◌≤◌, IsTrue, true, false, cond, List, [], ◌++◌, codes, length, get_or, Some, None}
+use Rattle.std.specs.Prelude.{◌≡◌, ◌≢◌, ◌⊎◌, ℕ, suc, ◌+◌, ◌*◌, ◌<◌, ◌≤◌, IsTrue, true}
+use Rattle.std.specs.Prelude.{false, cond, List, [], ◌++◌, codes, length, get_or, Some, None}
 use Rattle.std.specs.List.{concat}
 use Rattle.airy_math.specs.Rational.{ℚ}
 use Rattle.airy_math.specs.RationalLaws.{0ℚ}

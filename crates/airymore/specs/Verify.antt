@@ -9,7 +9,8 @@ use Rattle.airy_math.specs.Solutions.{Solves}
 use Rattle.airy_index.specs.Text.{key_text}
 use Rattle.frac128.specs.Fraction.{fraction_text}
 use Rattle.amp_plan.specs.Limits.{Limit, Within, PassesBound, PassesCells, PassesNeeds}
-use Rattle.airy_json.specs.Reading.{Kind, kind_tensors, Answer, Long, NoJson, BadForm, BadKind, BadBound, Unmade, Unplanned, BadCell, Gives, answer_of}
+use Rattle.airy_json.specs.Reading.{Kind, kind_tensors, Answer, Long, NoJson, BadForm}
+use Rattle.airy_json.specs.Reading.{BadKind, BadBound, Unmade, Unplanned, BadCell, Gives, answer_of}
 use Rattle.airy_json.specs.Verifying.{verified}
 use Rattle.airy_json.specs.Verified.{AreNoSolution, values_series}
 use Rattle.airy_json.specs.declared.refusals.JsonErr.{JsonErr}

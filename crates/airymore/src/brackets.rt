@@ -4,7 +4,8 @@ ghost use Rattle.sparse_tensor.specs.Entries.{looked_up};
 ghost use Rattle.run_reports.specs.Report.{Ends, Report, refusal};
 ghost use Rattle.run_reports.specs.Ends.{EndsBy, EndsOfText};
 ghost use Rattle.airymore.specs.Places.{places, IsPlace};
-ghost use Rattle.airymore.specs.Brackets.{first_over, number_text, number_at, numbers_report, numbers_text, obtained_at, place_text, LeadsToBrackets};
+ghost use Rattle.airymore.specs.Brackets.{first_over, number_text, number_at, numbers_report};
+ghost use Rattle.airymore.specs.Brackets.{numbers_text, obtained_at, place_text, LeadsToBrackets};
 
 use crate::places::{Place, first_place, next_place};
 use airy_closing::{bracket, bracket_law, closing};

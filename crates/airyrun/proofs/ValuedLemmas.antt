@@ -10,6 +10,7 @@ use Rattle.airyrun.specs.Numbers.{first_report, valued_report}
 use Rattle.airyrun.specs.Valued.{IsFilled, IsStored, IsValued, Refuses, plan_valued, stored_valued}
 use Rattle.run_reports.proofs.ReportLemmas.{not_whole}
 use Rattle.run_reports.proofs.StoredLemmas.{same_limit}
+use Rattle.amp_terms.proofs.TableLemmas.{values_there}
 
 pub same_full : (t : Entries) (T : Tensors) (X : ℕ) → SameTablesLaw → SameEntries (looked_up t) T → full_table (looked_up t) X ≡ full_table T X
 unfolding full_table
@@ -68,19 +69,6 @@ pub making_refuses : (s : Structure) (X : ℕ) (why : MakeErr) (before now : Tak
     → EndsBy (Refuses (valued_report s X)) before now result
 making_refuses s X why before now result bounded named e = (making_error why, making_is s X why bounded named, e)
 
--- where no key lacks a Value, each rank has one
-pub value_there : (os : List Outcome) → first_without (map Some os) ≡ None → (r : ℕ) → r < length os → (w : ℚ) × (get_or os r Over ≡ Value w)
-unfolding first_without next_rank
-value_there [] e r h = absurd (omega arith)
-value_there (Value w ∷ os) e zero h = (w, refl)
-value_there (Value w ∷ os) e (suc r) h = value_there os (behind (first_without (map Some os)) e) r (omega arith)
-  where
-    behind : (o : Option ℕ) → next_rank o ≡ None → o ≡ None
-    behind None e = refl
-    behind (Some r) e = cc
-value_there (Over ∷ os) e r h = cc
-value_there (Blocked q ∷ os) e r h = cc
-
 at_cell : (os : List Outcome) (r : ℕ) (w : ℚ) → r < length os → get_or os r Over ≡ Value w → value_of_cell (get_or (map Some os) r None) ≡ Some w
 unfolding value_of_cell value_of
 at_cell [] r w h e = absurd (omega arith)
@@ -94,7 +82,7 @@ unfolding full_table value_at keys_of
 cell_there p cells whole valued r h =
     let os = outcomes (tensors_of p) p.bound in
     let long : r < length os = omega (arith, h, length-outcomes (tensors_of p) p.bound) in
-    let v = value_there os (ap first_without (sym whole) ∙ valued) r long in
+    let v = values_there os (ap first_without (sym whole) ∙ valued) r long in
     (v.0, v.1, ap (λ t. value_of_cell (get_or t r None)) whole ∙ at_cell os r v.0 long v.1)
 
 -- ---- what the steps answer

@@ -1,5 +1,6 @@
 -- What is printed of an intersection number and of a volume, and what it is of every solution.
-use Rattle.std.specs.Prelude.{◌≡◌, ◌⊎◌, ℕ, zero, suc, ◌+◌, ◌*◌, ◌-◌, IsTrue, Bool, true, ◌&&◌, cond, nat_le, List, [], ◌∷◌, ◌++◌, map, codes, decimal, length, Option, Some, None}
+use Rattle.std.specs.Prelude.{◌≡◌, ◌⊎◌, ℕ, zero, suc, ◌+◌, ◌*◌, ◌-◌, IsTrue, Bool, true, ◌&&◌, cond}
+use Rattle.std.specs.Prelude.{nat_le, List, [], ◌∷◌, ◌++◌, map, codes, decimal, length, Option, Some, None}
 use Rattle.airy_math.specs.Rational.{ℚ}
 use Rattle.airy_math.specs.RationalLaws.{0ℚ}
 use Rattle.airy_math.specs.Keys.{Key, euler, key_of, IsSortedFrom}

@@ -5,7 +5,8 @@ ghost use Rattle.airy_math.specs.Jobs.{Wp};
 ghost use Rattle.correlators.specs.Volumes.{part_of, parts_of};
 ghost use Rattle.run_reports.specs.Report.{Ends, EndsOrWants, Report};
 ghost use Rattle.run_reports.specs.Ends.{EndsBy, EndsByOrWants};
-ghost use Rattle.airyrun.specs.Numbers.{IsDivision, IsQuotients, LeadsToVolume, joint, length_text, lengths_text, part_text, parts_text, takes_volume, terms_refused, volume_text};
+ghost use Rattle.airyrun.specs.Numbers.{IsDivision, IsQuotients, LeadsToVolume, joint, length_text};
+ghost use Rattle.airyrun.specs.Numbers.{lengths_text, part_text, parts_text, takes_volume, terms_refused, volume_text};
 ghost use Rattle.airyrun.specs.Valued.{IsValued};
 
 use crate::valued::valued_table;

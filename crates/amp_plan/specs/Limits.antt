@@ -38,7 +38,8 @@ past keys (Some r) = PassesNeeds (ranks.key_at keys r)
 unfoldable pub limit : math.Tensors → ℕ → Limit
 limit T X =
     cond (leb 1 X && leb X 24)
-    (cond (leb (length (planned T X)) 200000) (past (planned T X) (first_past 4000000 (need_counts T X))) (PassesCells (level_at (planned T X) 200000)))
+    (cond (leb (length (planned T X)) 200000) (past (planned T X) (first_past 4000000 (need_counts T X)))
+    (PassesCells (level_at (planned T X) 200000)))
     PassesBound
 
 unfoldable pub limit_of : Planning → Limit

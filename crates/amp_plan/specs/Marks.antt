@@ -29,7 +29,9 @@ pub record Marks : Type 0 where
   pub stamp : ℕ
 
 abbrev pub marks_code : Coded Marks
-marks_code = code_by (List ℕ × (ℕ × ℕ)) (coded× (coded_list coded_ℕ) (coded× coded_ℕ coded_ℕ)) (λ m. (m.row, (m.size, m.stamp))) (λ p. record { row = p.0; size = p.1.0; stamp = p.1.1 }) (λ _. refl)
+marks_code = code_by (List ℕ × (ℕ × ℕ)) (coded× (coded_list coded_ℕ) (coded× coded_ℕ coded_ℕ))
+    (λ m. (m.row, (m.size, m.stamp)))
+    (λ p. record { row = p.0; size = p.1.0; stamp = p.1.1 }) (λ _. refl)
 
 -- the marks with those ranks, too
 unfoldable pub marked : Marks → List ℕ → Marks

@@ -53,8 +53,10 @@ Climbs (x ∷ y ∷ xs) = (x < y) × Climbs (y ∷ xs)
 -- The needs of a plan: the ranks of what each key's terms name at its least index, all lower than its own; and the converse.
 pub record AreNeeds (T : Tensors) (X : ℕ) : Type 0 where
   pub lower : (r q : ℕ) → r < length (planned T X) → has q (needed T X r) ≡ true → q < r
-  pub all : (r : ℕ) (k : Key) → r < length (planned T X) → StandsIn k (needs T (ranks.key_at (planned T X) r)) → has (ranks.place_of k (planned T X)) (needed T X r) ≡ true
-  pub only : (r q : ℕ) → r < length (planned T X) → has q (needed T X r) ≡ true → StandsIn (ranks.key_at (planned T X) q) (needs T (ranks.key_at (planned T X) r))
+  pub all : (r : ℕ) (k : Key) → r < length (planned T X) → StandsIn k (needs T (ranks.key_at (planned T X) r)) →
+      has (ranks.place_of k (planned T X)) (needed T X r) ≡ true
+  pub only : (r q : ℕ) → r < length (planned T X) → has q (needed T X r) ≡ true →
+      StandsIn (ranks.key_at (planned T X) q) (needs T (ranks.key_at (planned T X) r))
   pub converse : (r q : ℕ) → r < length (planned T X) → q < length (planned T X) → has r (resting T X q) ≡ has q (needed T X r)
   pub climbs : (r : ℕ) → Climbs (needed T X r) × Climbs (resting T X r)
 

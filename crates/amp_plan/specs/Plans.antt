@@ -30,4 +30,5 @@ unfoldable pub rank_at : Planning → Key → ℕ
 rank_at p key = ranks.place_of key (keys_of p)
 
 abbrev pub planning_code : Coded Planning
-planning_code = code_by (Entries × ℕ) (coded× entries_code coded_ℕ) (λ p. (p.tensors, p.bound)) (λ p. record { tensors = p.0; bound = p.1 }) (λ _. refl)
+planning_code = code_by (Entries × ℕ) (coded× entries_code coded_ℕ) (λ p. (p.tensors, p.bound))
+    (λ p. record { tensors = p.0; bound = p.1 }) (λ _. refl)

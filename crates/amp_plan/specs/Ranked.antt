@@ -4,9 +4,10 @@ use mathlib.Core.Path.{◌≡◌}
 use mathlib.Core.List.{List, [], ◌∷◌, map}
 use Rattle.std.specs.Prelude.{Option, Some, ◌↔◌}
 use Rattle.airy_math.specs.Rational.{ℚ}
-use Rattle.airy_math.specs.Keys.{Key}
+use Rattle.airy_math.specs.Keys.{Key, remove}
 use Rattle.airy_math.specs.Obtained.{◌⊛◌}
 use Rattle.airy_math.specs.Terms as math
+use Rattle.amp_plan.specs.Plans.{Planning, tensors_of, rank_at}
 
 -- A number times what stands at no rank, one rank or two ranks. Of a number w = v or v (1/2) there is what is obtained.
 pub data RankedTerm : Type 0 where
@@ -43,6 +44,14 @@ obtained_at F (Twice w q l r) = w ⊛ Some q ⊛ Some (F l) ⊛ Some (F r)
 unfoldable pub all_ranked : (Key → ℕ) → List math.Term → List RankedTerm
 all_ranked rank ts = map (ranked rank) ts
 
+-- the ranked terms of a plan's pivot sum: of a genus and what is left of the indices without the pivot
+abbrev pub rest_terms : Planning → ℕ → ℕ → List ℕ → List RankedTerm
+rest_terms p pivot g I = all_ranked (rank_at p) (math.terms (tensors_of p) pivot g I)
+
+-- the same of a key and one of its indices
+abbrev pub pivot_terms : Planning → ℕ → Key → List RankedTerm
+pivot_terms p pivot key = rest_terms p pivot key.g (remove pivot key.idx)
+
 -- the state after all terms, each taken by a step
 unfoldable pub after_terms : {S : Type 0} → (S → RankedTerm → S) → S → List RankedTerm → S
 after_terms step s [] = s
@@ -59,6 +68,7 @@ NameAllowed P [] = Unit
 NameAllowed P (t ∷ ts) = AreAllowed P (ranks_of t) × NameAllowed P ts
 
 -- A visitor that took the terms: its state is the one after them, and it allows the ranks that it allowed.
-pub record Takes {W S : Type 0} (allows : W → ℕ → Type 0) (state : W → S) (step : S → RankedTerm → S) (ts : List RankedTerm) (old new : W) : Type 0 where
+pub record Takes {W S : Type 0} (allows : W → ℕ → Type 0) (state : W → S) (step : S → RankedTerm → S)
+    (ts : List RankedTerm) (old new : W) : Type 0 where
   pub after : state new ≡ after_terms step (state old) ts
   pub stays : (r : ℕ) → allows new r ↔ allows old r

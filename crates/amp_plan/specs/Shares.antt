@@ -14,7 +14,7 @@ use Rattle.airy_math.specs.Splits.{Split}
 use Rattle.airy_math.specs.Sums.{each}
 use Rattle.airy_index.specs.Choices.{all_splits, whole_length}
 use Rattle.amp_plan.specs.Plans.{Planning, tensors_of}
-use Rattle.amp_plan.specs.Ranked.{RankedTerm, NameAllowed}
+use Rattle.amp_plan.specs.Ranked.{RankedTerm, NameAllowed, Takes}
 use Rattle.amp_plan.specs.Walk.{IsPartOf, split_part, genus_part}
 use Rattle.index_lists.specs.Parts.{behind, listed}
 use Rattle.index_lists.specs.Measures.{IsMeasured, IsLight, gain, loss, law_excess}
@@ -70,3 +70,9 @@ pub record CanGoOn (allows : ℕ → Type 0) (p : Planning) (h : Share) (left : 
   pub split : Split
   pub chosen : IsChosen p h left c split
   pub allowed : NameAllowed allows (choice_part p h split left)
+
+-- Whatever the split was that was chosen, a visitor took the products of those that go on from it.
+abbrev pub TakesChoices : {W S : Type 0} → (W → ℕ → Type 0) → (W → S) → (S → RankedTerm → S) →
+    Planning → Share → List (ℕ × ℕ) → Chosen → W → W → Type 0
+TakesChoices allows state step p h left c old new =
+    (s : Split) → IsChosen p h left c s → Takes allows state step (choice_part p h s left) old new

@@ -15,6 +15,7 @@ use Rattle.airy_math.specs.Tensors.{Tensors, row_b, row_c}
 use Rattle.airy_math.specs.Terms.{obtained_half}
 use Rattle.amp_plan.specs.Plans.{Planning, tensors_of, rank_at}
 use Rattle.amp_plan.specs.Ranked.{RankedTerm, Once, Joined, Twice}
+use Rattle.amp_plan.specs.declared.pair.Pair.{Pair}
 
 -- Indices that make a key of the genus up to the bound when one index below dim is added.
 pub record HasRoom (T : Tensors) (X g : ℕ) (I : List ℕ) : Type 0 where
@@ -58,7 +59,8 @@ joined_part p g I a b w = cond (ltb 0 g) (for_rank (live_rank p (key_of (g - 1) 
 
 -- the product of a split, with the genus k on the left
 unfoldable pub split_part : Planning → ℕ → ℕ → ℕ → Option ℚ → ℕ → Split → List RankedTerm
-split_part p g a b w k s = for_ranks (live_rank p (key_of k (insert a s.part))) (live_rank p (key_of (g - k) (insert b s.rest))) (Twice w (whole s.ways))
+split_part p g a b w k s =
+    for_ranks (live_rank p (key_of k (insert a s.part))) (live_rank p (key_of (g - k) (insert b s.rest))) (Twice w (whole s.ways))
 
 unfoldable pub genus_part : Planning → ℕ → List ℕ → ℕ → ℕ → Option ℚ → ℕ → List RankedTerm
 genus_part p g I a b w k = each (splits I) (split_part p g a b w k)
@@ -74,3 +76,20 @@ entry_part p g I abv =
 
 unfoldable pub c_part : Planning → ℕ → ℕ → List ℕ → List RankedTerm
 c_part p i g I = each (row_c (tensors_of p) i) (entry_part p g I)
+
+-- both
+abbrev pub both_parts : Planning → ℕ → ℕ → List ℕ → List RankedTerm
+both_parts p i g I = b_part p i g I ++ c_part p i g I
+
+-- the parts of a pair with its weight
+abbrev pub pair_joined : Planning → ℕ → List ℕ → Pair → List RankedTerm
+pair_joined p g I x = joined_part p g I x.a x.b x.weight
+
+abbrev pub pair_split : Planning → ℕ → Pair → ℕ → Split → List RankedTerm
+pair_split p g x = split_part p g x.a x.b x.weight
+
+abbrev pub pair_genus : Planning → ℕ → List ℕ → Pair → ℕ → List RankedTerm
+pair_genus p g I x = genus_part p g I x.a x.b x.weight
+
+abbrev pub pair_products : Planning → ℕ → List ℕ → Pair → List RankedTerm
+pair_products p g I x = product_part p g I x.a x.b x.weight

@@ -1,18 +1,17 @@
 // The products of a pair by codes: parts are chosen run by run, and those that can't come where both keys are covered are passed
 // over. This is the walk where codes tell all keys of the plan apart. Where two keys have one code, `walk_splits` makes each key and
 // looks for it in their order; no plan is known at which that happens, and with it nothing need be stated of codes.
-ghost use Rattle.std.specs.Prelude.{◌≡◌, ◌≤◌, ◌<◌, ◌+◌, ◌-◌, ◌*◌, ◌/◌, ◌^◌, ◌+ℤ◌, ◌-ℤ◌, ◌∷◌, [], ℕ, pos, true, length, Some};
+ghost use Rattle.std.specs.Prelude.{◌≡◌, ◌≤◌, ◌<◌, ◌+◌, ◌-◌, ◌*◌, ◌/◌, ◌^◌, ◌∷◌, [], ℕ, true, length, Some};
 ghost use Rattle.std.specs.Int.RustNames.{unsigned_abs};
-ghost use Rattle.airy_math.specs.Cuts.{natural};
 ghost use Rattle.airy_math.specs.Shapes.{per_n as shape_per_n};
-ghost use Rattle.airy_math.specs.Splits.{Split, splits};
+ghost use Rattle.airy_math.specs.Splits.{splits};
 ghost use Rattle.amp_plan.specs.Plans.{tensors_of, keys_of};
 ghost use Rattle.amp_plan.specs.Ranked.{NameAllowed, Takes};
 ghost use Rattle.index_lists.specs.Rests.{IsRest};
-ghost use Rattle.amp_plan.specs.Walk.{HasRoom, genus_part};
+ghost use Rattle.amp_plan.specs.Walk.{HasRoom, pair_genus};
 ghost use Rattle.index_lists.specs.Measures.{IsLight, IsMeasured};
-ghost use Rattle.index_lists.specs.SplitLists.{chain, all_listed};
-ghost use Rattle.amp_plan.specs.Shares.{can_reach as reached, choice_part, of_share, IsShare, IsChosen, CanGoOn};
+ghost use Rattle.index_lists.specs.SplitLists.{chain, AreListed};
+ghost use Rattle.amp_plan.specs.Shares.{can_reach as reached, of_share, IsShare, CanGoOn, TakesChoices};
 
 use crate::finding::find_live;
 use crate::pair::Pair;
@@ -85,7 +84,7 @@ pub(crate) fn walk_reachable<V: TermVisitor>(
     requires exact { index.now.exact ≡ true }
     requires share { IsShare ranking.now share.now }
     requires go_on { CanGoOn (V.allows visitor.old) ranking.now share.now left.now chosen.now }
-    ensures { (s : Split) → IsChosen ranking.now share.now left.now chosen.now s → Takes V.allows V.state V.step (choice_part ranking.now share.now s left.now) visitor.old visitor.new }
+    ensures { TakesChoices V.allows V.state V.step ranking.now share.now left.now chosen.now visitor.old visitor.new }
 {
     if !share.can_reach(chosen) {
         return;
@@ -111,7 +110,7 @@ fn walk_choices<V: TermVisitor>(
     requires exact { index.now.exact ≡ true }
     requires share { IsShare ranking.now share.now }
     requires go_on { CanGoOn (V.allows visitor.old) ranking.now share.now (run ∷ others.now) chosen.now }
-    ensures { (s : Split) → IsChosen ranking.now share.now (run ∷ others.now) chosen.now s → Takes V.allows V.state V.step (choice_part ranking.now share.now s (run ∷ others.now)) visitor.old visitor.new }
+    ensures { TakesChoices V.allows V.state V.step ranking.now share.now (run ∷ others.now) chosen.now visitor.old visitor.new }
 {
     let item = Measure::of(index, share.per_n, run.0);
     let mut next = chosen.before(&item, run.1);
@@ -139,7 +138,7 @@ fn walk_chosen<V: TermVisitor>(
     requires exact { index.now.exact ≡ true }
     requires share { IsShare ranking.now share.now }
     requires go_on { CanGoOn (V.allows visitor.old) ranking.now share.now [] chosen.now }
-    ensures { (s : Split) → IsChosen ranking.now share.now [] chosen.now s → Takes V.allows V.state V.step (choice_part ranking.now share.now s []) visitor.old visitor.new }
+    ensures { TakesChoices V.allows V.state V.step ranking.now share.now [] chosen.now visitor.old visitor.new }
 {
     let left = share.left.plus(chosen.part);
     let Some(left) = find_live(ranking, index, share.k, left) else {
@@ -209,7 +208,7 @@ fn walk_listed<const N: usize, V: TermVisitor>(
     requires share { IsShare ranking.now share.now }
     requires room { HasRoom (tensors_of ranking.now) ranking.now.bound share.now.genus list.now.rest.list.items }
     requires right { IsMeasured share.now.per_n (share.now.pair.now.b ∷ list.now.rest.list.items) share.now.right }
-    requires listed { list.now.splits ≡ all_listed share.now.per_n (splits list.now.rest.list.items) }
+    requires listed { AreListed share.now.per_n list.now.rest.list.items list.now.splits }
     requires allowed { NameAllowed (V.allows visitor.old) (of_share ranking.now share.now list.now.rest.list.items) }
     ensures { Takes V.allows V.state V.step (of_share ranking.now share.now list.now.rest.list.items) visitor.old visitor.new }
 {
@@ -235,13 +234,13 @@ pub(crate) fn walk_share<const N: usize, V: TermVisitor>(
     requires keys { index.now.keys ≡ keys_of ranking.now }
     requires exact { index.now.exact ≡ true }
     requires rest { IsRest (shape_per_n ranking.now.tensors.shape) list.now.rest }
-    requires listed { list.now.whole ≡ true → list.now.splits ≡ all_listed (shape_per_n ranking.now.tensors.shape) (splits list.now.rest.list.items) }
+    requires listed { list.now.whole ≡ true → AreListed (shape_per_n ranking.now.tensors.shape) list.now.rest.list.items list.now.splits }
     requires room { HasRoom (tensors_of ranking.now) ranking.now.bound genus list.now.rest.list.items }
     requires a { pair.now.a < ranking.now.tensors.dim }
     requires b { pair.now.b < ranking.now.tensors.dim }
     requires k { k ≤ genus }
-    requires allowed { NameAllowed (V.allows visitor.old) (genus_part ranking.now genus list.now.rest.list.items pair.now.a pair.now.b pair.now.weight k) }
-    ensures { Takes V.allows V.state V.step (genus_part ranking.now genus list.now.rest.list.items pair.now.a pair.now.b pair.now.weight k) visitor.old visitor.new }
+    requires allowed { NameAllowed (V.allows visitor.old) (pair_genus ranking.now genus list.now.rest.list.items pair.now k) }
+    ensures { Takes V.allows V.state V.step (pair_genus ranking.now genus list.now.rest.list.items pair.now k) visitor.old visitor.new }
 {
     ranking.is_small();
     let share = Share::of(ranking, genus, &list.rest, pair, k);

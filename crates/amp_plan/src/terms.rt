@@ -1,9 +1,9 @@
 ghost use Rattle.std.specs.Prelude.{◌<◌};
-ghost use Rattle.airy_math.specs.Keys.{remove, times};
+ghost use Rattle.airy_math.specs.Keys.{times};
 ghost use Rattle.airy_math.specs.Planned.{IsPlanned};
 ghost use Rattle.airy_math.specs.Terms.{terms};
-ghost use Rattle.amp_plan.specs.Plans.{tensors_of, rank_at};
-ghost use Rattle.amp_plan.specs.Ranked.{NameAllowed, Takes, all_ranked};
+ghost use Rattle.amp_plan.specs.Plans.{tensors_of};
+ghost use Rattle.amp_plan.specs.Ranked.{NameAllowed, Takes, pivot_terms};
 
 use crate::plan::Plan;
 use crate::visitor::TermVisitor;
@@ -14,8 +14,8 @@ use airy_index::Key;
 pub fn walk_terms<V: TermVisitor>(plan: &Plan, key: &Key, pivot: u8, visitor: &mut V)
     requires planned { IsPlanned (tensors_of plan.now) plan.now.bound key.now }
     requires pivot { 0 < times pivot key.now.idx }
-    requires allowed { NameAllowed (V.allows visitor.old) (all_ranked (rank_at plan.now) (terms (tensors_of plan.now) pivot key.now.g (remove pivot key.now.idx))) }
-    ensures { Takes V.allows V.state V.step (all_ranked (rank_at plan.now) (terms (tensors_of plan.now) pivot key.now.g (remove pivot key.now.idx))) visitor.old visitor.new }
+    requires allowed { NameAllowed (V.allows visitor.old) (pivot_terms plan.now pivot key.now) }
+    ensures { Takes V.allows V.state V.step (pivot_terms plan.now pivot key.now) visitor.old visitor.new }
 {
     walk_ranked(plan.ranking(), key, pivot, visitor)
 }

@@ -1,16 +1,18 @@
-ghost use Rattle.std.specs.Prelude.{◌≡◌, ◌<◌, ◌≤◌, ◌∷◌, ◌++◌, ◌-◌, ◌^◌, [], ℕ, true, length, drop};
-ghost use Rattle.airy_math.specs.Keys.{key_of, insert, remove, ordered, times};
+ghost use Rattle.std.specs.Prelude.{◌≡◌, ◌<◌, ◌≤◌, ◌-◌, ◌^◌, true, length};
+ghost use Rattle.airy_math.specs.Keys.{times};
 ghost use Rattle.airy_math.specs.Shapes.{per_n as shape_per_n};
 ghost use Rattle.airy_math.specs.Terms.{terms};
 ghost use Rattle.airy_math.specs.Planned.{IsPlanned};
 ghost use Rattle.airy_index.specs.SplitValues.{split_value};
-ghost use Rattle.amp_plan.specs.Plans.{tensors_of, rank_at};
-ghost use Rattle.amp_plan.specs.Ranked.{NameAllowed, Takes, all_ranked};
+ghost use Rattle.amp_plan.specs.Plans.{tensors_of};
+ghost use Rattle.amp_plan.specs.Ranked.{NameAllowed, Takes, rest_terms, pivot_terms};
 ghost use Rattle.index_lists.specs.Measures.{IsMeasured};
 ghost use Rattle.airy_math.specs.Splits.{splits};
 ghost use Rattle.index_lists.specs.Rests.{IsRest};
-ghost use Rattle.index_lists.specs.SplitLists.{all_listed};
-ghost use Rattle.amp_plan.specs.Walk.{HasRoom, IsPartOf, live_rank, once_part, run_part, b_part, joined_part, split_part, genus_part, product_part, entry_part, c_part};
+ghost use Rattle.index_lists.specs.SplitLists.{AreListed};
+ghost use Rattle.amp_plan.specs.Walk.{HasRoom, IsPartOf, once_part, run_part, b_part};
+ghost use Rattle.amp_plan.specs.Walk.{both_parts, pair_joined, pair_split, pair_genus, pair_products};
+ghost use Rattle.amp_plan.specs.Walk.{entry_part, c_part};
 
 use crate::finding::{rank_beside, rank_joined, rank_with};
 use crate::pair::{Pair, weight_of};
@@ -26,8 +28,8 @@ use item_chains::Chains;
 pub(crate) fn walk_ranked<V: TermVisitor>(ranking: &Ranking, key: &Key, pivot: u8, visitor: &mut V)
     requires planned { IsPlanned (tensors_of ranking.now) ranking.now.bound key.now }
     requires pivot { 0 < times pivot key.now.idx }
-    requires allowed { NameAllowed (V.allows visitor.old) (all_ranked (rank_at ranking.now) (terms (tensors_of ranking.now) pivot key.now.g (remove pivot key.now.idx))) }
-    ensures { Takes V.allows V.state V.step (all_ranked (rank_at ranking.now) (terms (tensors_of ranking.now) pivot key.now.g (remove pivot key.now.idx))) visitor.old visitor.new }
+    requires allowed { NameAllowed (V.allows visitor.old) (pivot_terms ranking.now pivot key.now) }
+    ensures { Takes V.allows V.state V.step (pivot_terms ranking.now pivot key.now) visitor.old visitor.new }
 {
     key.validity_fact();
     let rest = without(key.idx(), pivot);
@@ -38,8 +40,8 @@ pub(crate) fn walk_ranked<V: TermVisitor>(ranking: &Ranking, key: &Key, pivot: u
 fn walk_rest<V: TermVisitor>(ranking: &Ranking, genus: u8, pivot: u8, rest: &[u8], visitor: &mut V)
     requires room { HasRoom (tensors_of ranking.now) ranking.now.bound genus rest.now }
     requires few { length rest.now ≤ 25 }
-    requires allowed { NameAllowed (V.allows visitor.old) (all_ranked (rank_at ranking.now) (terms (tensors_of ranking.now) pivot genus rest.now)) }
-    ensures { Takes V.allows V.state V.step (all_ranked (rank_at ranking.now) (terms (tensors_of ranking.now) pivot genus rest.now)) visitor.old visitor.new }
+    requires allowed { NameAllowed (V.allows visitor.old) (rest_terms ranking.now pivot genus rest.now) }
+    ensures { Takes V.allows V.state V.step (rest_terms ranking.now pivot genus rest.now) visitor.old visitor.new }
 {
     match (genus, rest.len()) {
         (0, 2) => visitor.alone(ranking.tensors().a(pivot, rest[0], rest[1])),
@@ -52,8 +54,8 @@ fn walk_rest<V: TermVisitor>(ranking: &Ranking, genus: u8, pivot: u8, rest: &[u8
 fn walk_parts<V: TermVisitor>(ranking: &Ranking, genus: u8, pivot: u8, rest: &[u8], visitor: &mut V)
     requires room { HasRoom (tensors_of ranking.now) ranking.now.bound genus rest.now }
     requires few { length rest.now ≤ 25 }
-    requires allowed { NameAllowed (V.allows visitor.old) (b_part ranking.now pivot genus rest.now ++ c_part ranking.now pivot genus rest.now) }
-    ensures { Takes V.allows V.state V.step (b_part ranking.now pivot genus rest.now ++ c_part ranking.now pivot genus rest.now) visitor.old visitor.new }
+    requires allowed { NameAllowed (V.allows visitor.old) (both_parts ranking.now pivot genus rest.now) }
+    ensures { Takes V.allows V.state V.step (both_parts ranking.now pivot genus rest.now) visitor.old visitor.new }
 {
     ranking.tensors().soundness_fact();
     let rest = Rest::of(ranking.index(), ranking.tensors().shape(), rest);
@@ -178,7 +180,7 @@ fn walk_entry<const N: usize, V: TermVisitor>(
     visitor: &mut V,
 )
     requires rest { IsRest (shape_per_n ranking.now.tensors.shape) list.now.rest }
-    requires listed { list.now.whole ≡ true → list.now.splits ≡ all_listed (shape_per_n ranking.now.tensors.shape) (splits list.now.rest.list.items) }
+    requires listed { list.now.whole ≡ true → AreListed (shape_per_n ranking.now.tensors.shape) list.now.rest.list.items list.now.splits }
     requires room { HasRoom (tensors_of ranking.now) ranking.now.bound genus list.now.rest.list.items }
     requires a { entry.0 < ranking.now.tensors.dim }
     requires b { entry.1 < ranking.now.tensors.dim }
@@ -206,8 +208,8 @@ fn walk_joined<V: TermVisitor>(
     requires room { HasRoom (tensors_of ranking.now) ranking.now.bound genus rest.now.list.items }
     requires a { pair.now.a < ranking.now.tensors.dim }
     requires b { pair.now.b < ranking.now.tensors.dim }
-    requires allowed { NameAllowed (V.allows visitor.old) (joined_part ranking.now genus rest.now.list.items pair.now.a pair.now.b pair.now.weight) }
-    ensures { Takes V.allows V.state V.step (joined_part ranking.now genus rest.now.list.items pair.now.a pair.now.b pair.now.weight) visitor.old visitor.new }
+    requires allowed { NameAllowed (V.allows visitor.old) (pair_joined ranking.now genus rest.now.list.items pair.now) }
+    ensures { Takes V.allows V.state V.step (pair_joined ranking.now genus rest.now.list.items pair.now) visitor.old visitor.new }
 {
     if genus == 0 {
         return;
@@ -226,12 +228,12 @@ fn walk_products<const N: usize, V: TermVisitor>(
     visitor: &mut V,
 )
     requires rest { IsRest (shape_per_n ranking.now.tensors.shape) list.now.rest }
-    requires listed { list.now.whole ≡ true → list.now.splits ≡ all_listed (shape_per_n ranking.now.tensors.shape) (splits list.now.rest.list.items) }
+    requires listed { list.now.whole ≡ true → AreListed (shape_per_n ranking.now.tensors.shape) list.now.rest.list.items list.now.splits }
     requires room { HasRoom (tensors_of ranking.now) ranking.now.bound genus list.now.rest.list.items }
     requires a { pair.now.a < ranking.now.tensors.dim }
     requires b { pair.now.b < ranking.now.tensors.dim }
-    requires allowed { NameAllowed (V.allows visitor.old) (product_part ranking.now genus list.now.rest.list.items pair.now.a pair.now.b pair.now.weight) }
-    ensures { Takes V.allows V.state V.step (product_part ranking.now genus list.now.rest.list.items pair.now.a pair.now.b pair.now.weight) visitor.old visitor.new }
+    requires allowed { NameAllowed (V.allows visitor.old) (pair_products ranking.now genus list.now.rest.list.items pair.now) }
+    ensures { Takes V.allows V.state V.step (pair_products ranking.now genus list.now.rest.list.items pair.now) visitor.old visitor.new }
 {
     for k in 0..=genus {
         walk_genus(ranking, genus, list, pair, k, visitor);
@@ -248,13 +250,13 @@ fn walk_genus<const N: usize, V: TermVisitor>(
     visitor: &mut V,
 )
     requires rest { IsRest (shape_per_n ranking.now.tensors.shape) list.now.rest }
-    requires listed { list.now.whole ≡ true → list.now.splits ≡ all_listed (shape_per_n ranking.now.tensors.shape) (splits list.now.rest.list.items) }
+    requires listed { list.now.whole ≡ true → AreListed (shape_per_n ranking.now.tensors.shape) list.now.rest.list.items list.now.splits }
     requires room { HasRoom (tensors_of ranking.now) ranking.now.bound genus list.now.rest.list.items }
     requires a { pair.now.a < ranking.now.tensors.dim }
     requires b { pair.now.b < ranking.now.tensors.dim }
     requires k { k ≤ genus }
-    requires allowed { NameAllowed (V.allows visitor.old) (genus_part ranking.now genus list.now.rest.list.items pair.now.a pair.now.b pair.now.weight k) }
-    ensures { Takes V.allows V.state V.step (genus_part ranking.now genus list.now.rest.list.items pair.now.a pair.now.b pair.now.weight k) visitor.old visitor.new }
+    requires allowed { NameAllowed (V.allows visitor.old) (pair_genus ranking.now genus list.now.rest.list.items pair.now k) }
+    ensures { Takes V.allows V.state V.step (pair_genus ranking.now genus list.now.rest.list.items pair.now k) visitor.old visitor.new }
 {
     let index = ranking.index();
     if index.is_exact() {
@@ -277,8 +279,8 @@ fn walk_splits<V: TermVisitor>(
     requires a { pair.now.a < ranking.now.tensors.dim }
     requires b { pair.now.b < ranking.now.tensors.dim }
     requires k { k ≤ genus }
-    requires allowed { NameAllowed (V.allows visitor.old) (genus_part ranking.now genus rest.now pair.now.a pair.now.b pair.now.weight k) }
-    ensures { Takes V.allows V.state V.step (genus_part ranking.now genus rest.now pair.now.a pair.now.b pair.now.weight k) visitor.old visitor.new }
+    requires allowed { NameAllowed (V.allows visitor.old) (pair_genus ranking.now genus rest.now pair.now k) }
+    ensures { Takes V.allows V.state V.step (pair_genus ranking.now genus rest.now pair.now k) visitor.old visitor.new }
 {
     ranking.is_small();
     for split in Splits::of(rest) {
@@ -299,8 +301,8 @@ fn walk_split<V: TermVisitor>(
     requires b { pair.now.b < ranking.now.tensors.dim }
     requires k { k ≤ genus }
     requires split { IsPartOf (tensors_of ranking.now) ranking.now.bound genus k (split_value split.now) }
-    requires allowed { NameAllowed (V.allows visitor.old) (split_part ranking.now genus pair.now.a pair.now.b pair.now.weight k (split_value split.now)) }
-    ensures { Takes V.allows V.state V.step (split_part ranking.now genus pair.now.a pair.now.b pair.now.weight k (split_value split.now)) visitor.old visitor.new }
+    requires allowed { NameAllowed (V.allows visitor.old) (pair_split ranking.now genus pair.now k (split_value split.now)) }
+    ensures { Takes V.allows V.state V.step (pair_split ranking.now genus pair.now k (split_value split.now)) visitor.old visitor.new }
 {
     let Some(left) = rank_with(ranking, k, split.part.as_slice(), pair.a) else {
         return;

@@ -68,10 +68,10 @@ unfolding least_without AreAllowed
 least-same f g [] h = refl
 least-same f g (r ∷ rs) h = ap₂ (λ o b. cond (has_value o) b (smaller r b)) h.0 (least-same f g rs h.1)
 
-allowed-left : (P : ℕ → Type 0) (rs qs : List ℕ) → AreAllowed P (rs ++ qs) → AreAllowed P rs × AreAllowed P qs
+pub allowed-both : (P : ℕ → Type 0) (rs qs : List ℕ) → AreAllowed P (rs ++ qs) → AreAllowed P rs × AreAllowed P qs
 unfolding AreAllowed
-allowed-left P [] qs h = (tt, h)
-allowed-left P (r ∷ rs) qs h = let k = allowed-left P rs qs h.1 in ((h.0, k.0), k.1)
+allowed-both P [] qs h = (tt, h)
+allowed-both P (r ∷ rs) qs h = let k = allowed-both P rs qs h.1 in ((h.0, k.0), k.1)
 
 module _ (f g : ℕ → Outcome) (plan : List Key) where
   Same : ℕ → Type 0
@@ -94,7 +94,7 @@ module _ (f g : ℕ → Outcome) (plan : List Key) where
   terms-same : (ts : List Term) → AreAllowed Same (ranks_named plan ts) → map (obtained_term (at f)) ts ≡ map (obtained_term (at g)) ts
   unfolding ranks_named each
   terms-same [] h = refl
-  terms-same (t ∷ ts) h = let k = allowed-left Same (map (λ k. ranks.place_of k plan) (named t)) (ranks_named plan ts) h in ap₂ ◌∷◌ (term-same t k.0) (terms-same ts k.1)
+  terms-same (t ∷ ts) h = let k = allowed-both Same (map (λ k. ranks.place_of k plan) (named t)) (ranks_named plan ts) h in ap₂ ◌∷◌ (term-same t k.0) (terms-same ts k.1)
 
   pub pivot-same : (T : Tensors) (key : Key) (i : ℕ) → AreAllowed (λ r. f r ≡ g r) (ranks_named plan (terms T i key.g (remove i key.idx))) → pivot_outcome T plan f key i ≡ pivot_outcome T plan g key i
   unfolding pivot_outcome obtained_pivot_sum Same at

@@ -14,6 +14,7 @@ use Rattle.amp_terms.specs.Outcomes.{ranks_named, smaller, has_value, outcome_fr
 use Rattle.airy_math.specs.Obtained.{obtained_from, both_obtained, obtained_sum, ◌⊛◌}
 use Rattle.amp_plan.specs.Ranked.{RankedTerm, Once, Joined, Twice, ranked, all_ranked, ranks_of, obtained_at, after_terms, AreAllowed, NameAllowed}
 use Rattle.amp_terms.specs.Pivots.{Summing, IsTerm, with_term, all_noted, noted, number_at, least_without, pivot_outcome}
+use Rattle.amp_terms.proofs.OutcomeLemmas.{allowed-both}
 
 pub same_summing : {B : Type 0} (a b : Summing B) → a.reader ≡ b.reader → a.base ≡ b.base → a.shown ≡ b.shown → a.blocked ≡ b.blocked → a.sum ≡ b.sum → a ≡ b
 same_summing a b p q r s t = λ i. record { reader = p i; base = q i; shown = r i; blocked = s i; sum = t i }
@@ -101,15 +102,10 @@ unfolding all_ranks all_ranked ranks_named each
 ranks-named plan [] = refl
 ranks-named plan (t ∷ ts) = ap₂ ◌++◌ (ranks-ranked plan t) (ranks-named plan ts)
 
-allowed-split : (P : ℕ → Type 0) (rs qs : List ℕ) → AreAllowed P (rs ++ qs) → AreAllowed P rs × AreAllowed P qs
-unfolding AreAllowed
-allowed-split P [] qs h = (tt, h)
-allowed-split P (r ∷ rs) qs h = let k = allowed-split P rs qs h.1 in ((h.0, k.0), k.1)
-
 name_allowed : (P : ℕ → Type 0) (ts : List RankedTerm) → AreAllowed P (all_ranks ts) → NameAllowed P ts
 unfolding NameAllowed all_ranks each
 name_allowed P [] h = tt
-name_allowed P (t ∷ ts) h = let k = allowed-split P (ranks_of t) (each ts ranks_of) h in (k.0, name_allowed P ts k.1)
+name_allowed P (t ∷ ts) h = let k = allowed-both P (ranks_of t) (each ts ranks_of) h in (k.0, name_allowed P ts k.1)
 
 -- what has all ranks named allows all terms
 pub allowed-named : (P : ℕ → Type 0) (p : Planning) (ts : List Term) → AreAllowed P (ranks_named (keys_of p) ts) → NameAllowed P (all_ranked (rank_at p) ts)

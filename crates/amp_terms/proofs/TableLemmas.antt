@@ -1,5 +1,5 @@
 -- The least rank without a Value, found from left to right.
-use Rattle.std.proofs.Common.{◌≡◌, ℕ, suc, zero, ◌+◌, ◌<◌, ◌≤◌, List, ◌∷◌, true, false, length, drop, get_or, refl, sym, ap, ◌∙◌, arith, Option, Some, None, IfSome, map, replicate}
+use Rattle.std.proofs.Common.{◌≡◌, ℕ, suc, zero, ◌+◌, ◌<◌, ◌≤◌, List, [], ◌∷◌, true, false, length, drop, get_or, refl, sym, ap, ◌∙◌, arith, Option, Some, None, IfSome, map, replicate}
 use Rattle.std.proofs.lemmas.List.{at_drop_more, at_drop_all}
 use Rattle.airy_math.specs.Rational.{ℚ}
 use Rattle.amp_terms.specs.declared.Outcome.{Outcome}
@@ -100,3 +100,16 @@ none_has (Blocked r) d = refl
 pub map-replicate : {A B : Type 0} (f : A → B) (n : ℕ) (x : A) → map f (replicate n x) ≡ replicate n (f x)
 map-replicate f zero x = refl
 map-replicate f (suc n) x = ap (λ t. f x ∷ t) (map-replicate f n x)
+
+-- where no rank is the first without a Value, each has one
+pub values_there : (os : List Outcome) → first_without (map Some os) ≡ None → (r : ℕ) → r < length os → (w : ℚ) × (get_or os r Over ≡ Value w)
+unfolding first_without next_rank
+values_there [] e r h = absurd (omega arith)
+values_there (Value w ∷ os) e zero h = (w, refl)
+values_there (Value w ∷ os) e (suc r) h = values_there os (behind (first_without (map Some os)) e) r (omega arith)
+  where
+    behind : (o : Option ℕ) → next_rank o ≡ None → o ≡ None
+    behind None e = refl
+    behind (Some r) e = cc
+values_there (Over ∷ os) e r h = cc
+values_there (Blocked q ∷ os) e r h = cc

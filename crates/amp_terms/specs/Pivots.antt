@@ -14,6 +14,7 @@ use lib.ListN.{get_or}
 use Rattle.amp_terms.specs.declared.Outcome.{Outcome}
 use Rattle.amp_terms.specs.declared.Outcome.TheVariants.{Over}
 use Rattle.amp_terms.specs.Outcomes.{has_value, smaller, value_or_zero, outcome_from, ranks_named}
+use Rattle.amp_plan.specs.Plans.{Planning, tensors_of, keys_of}
 use Rattle.amp_plan.specs.Ranked.{RankedTerm, ranks_of, obtained_at}
 
 -- the least rank of a list without a Value, where each rank is shown with its outcome
@@ -31,6 +32,14 @@ unfoldable pub pivot_outcome : Tensors → List Key → (ℕ → Outcome) → Ke
 pivot_outcome T plan shown key i =
     outcome_from (least_without shown (ranks_named plan (terms T i key.g (remove i key.idx))))
     (obtained_pivot_sum T (λ k. number_at shown (place_of k plan)) key i)
+
+-- the same over a plan
+abbrev pub planned_outcome : Planning → (ℕ → Outcome) → Key → ℕ → Outcome
+planned_outcome p shown key i = pivot_outcome (tensors_of p) (keys_of p) shown key i
+
+-- the ranks that the terms of a plan's pivot sum name
+abbrev pub pivot_ranks : Planning → ℕ → Key → List ℕ
+pivot_ranks p i key = ranks_named (keys_of p) (terms (tensors_of p) i key.g (remove i key.idx))
 
 -- the outcomes in a list, and Over behind its end
 unfoldable pub listed : List Outcome → ℕ → Outcome
@@ -57,7 +66,10 @@ all_noted shown blocked (r ∷ rs) = all_noted shown (noted blocked r (shown r))
 -- the sum with one more term
 unfoldable pub with_term : {B : Type 0} → Summing B → RankedTerm → Summing B
 with_term s t =
-    record s { blocked = all_noted s.shown s.blocked (ranks_of t); sum = both_obtained obtained_sum s.sum (obtained_at (number_at s.shown) t) }
+    record s {
+      blocked = all_noted s.shown s.blocked (ranks_of t);
+      sum = both_obtained obtained_sum s.sum (obtained_at (number_at s.shown) t);
+    }
 
 -- What is obtained of a term whose ranks all have Values.
 pub record IsTerm (shown : ℕ → Outcome) (t : RankedTerm) (x : Option ℚ) : Type 0 where

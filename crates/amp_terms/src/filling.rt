@@ -1,11 +1,10 @@
 ghost use Rattle.std.specs.Prelude.{◌≡◌, ◌<◌, ℕ, length, IfOk};
-ghost use Rattle.airy_math.specs.Keys.{head_or, remove, times};
+ghost use Rattle.airy_math.specs.Keys.{head_or, times};
 ghost use Rattle.airy_math.specs.Planned.{IsPlanned};
 ghost use Rattle.airy_math.specs.Terms.{terms};
 ghost use Rattle.amp_plan.specs.Plans.{tensors_of, keys_of, key_at};
 ghost use Rattle.amp_plan.specs.Ranked.{AreAllowed};
-ghost use Rattle.amp_terms.specs.Outcomes.{ranks_named};
-ghost use Rattle.amp_terms.specs.Pivots.{pivot_outcome};
+ghost use Rattle.amp_terms.specs.Pivots.{planned_outcome, pivot_ranks};
 ghost use Rattle.amp_terms.specs.Tables.{full_table, shown_in, IsFilled};
 
 use crate::Outcome;
@@ -33,7 +32,7 @@ pub fn one_thread(alloc: Global, plan: &Plan) -> Result<Table, NoMemory>
 fn outcome_at(plan: &Plan, rank: u32, table: &Table) -> Outcome
     requires rank { rank < length (keys_of plan.now) }
     requires lower { (q : ℕ) → q < rank → IsFilled table.now q }
-    ensures { let key = key_at plan.now rank in result ≡ pivot_outcome (tensors_of plan.now) (keys_of plan.now) (shown_in table.now) key (head_or 0 key.idx) }
+    ensures { let key = key_at plan.now rank in result ≡ planned_outcome plan.now (shown_in table.now) key (head_or 0 key.idx) }
 {
     plan.planned_fact();
     plan.needs_fact();
@@ -47,7 +46,7 @@ fn outcome_at(plan: &Plan, rank: u32, table: &Table) -> Outcome
 pub fn names_ranks(plan: &Plan, key: &Key, pivot: u8)
     requires planned { IsPlanned (tensors_of plan.now) plan.now.bound key.now }
     requires pivot { 0 < times pivot key.now.idx }
-    ensures { AreAllowed (λ r. r < length (keys_of plan.now)) (ranks_named (keys_of plan.now) (terms (tensors_of plan.now) pivot key.now.g (remove pivot key.now.idx))) }
+    ensures { AreAllowed (λ r. r < length (keys_of plan.now)) (pivot_ranks plan.now pivot key.now) }
 {
     plan.planned_fact();
     airy_math::needs_first();

@@ -1,15 +1,14 @@
 ghost use Rattle.std.specs.Prelude.{◌≡◌, ◌↔◌, ℕ, ◌<◌, Some, None, IfSome, is_some};
-ghost use Rattle.airy_math.specs.Keys.{remove, times};
-ghost use Rattle.airy_math.specs.Obtained.{both_obtained, obtained_product, obtained_sum};
+ghost use Rattle.airy_math.specs.Keys.{times};
 ghost use Rattle.airy_math.specs.Planned.{IsPlanned};
 ghost use Rattle.airy_math.specs.RationalLaws.{0ℚ};
 ghost use Rattle.airy_math.specs.Terms.{terms};
-ghost use Rattle.amp_plan.specs.Plans.{tensors_of, keys_of, rank_at};
+ghost use Rattle.amp_plan.specs.Plans.{tensors_of};
 ghost use Rattle.amp_terms.specs.declared.Outcome.{Outcome};
-ghost use Rattle.amp_terms.specs.Outcomes.{has_value, outcome_from, ranks_named, smaller, value_or_zero, Value};
+ghost use Rattle.amp_terms.specs.Outcomes.{has_value, outcome_from, smaller, value_or_zero, Value};
 ghost use Rattle.amp_terms.specs.Tables.{value_of};
-ghost use Rattle.amp_terms.specs.Pivots.{noted, pivot_outcome};
-ghost use Rattle.amp_plan.specs.Ranked.{AreAllowed, NameAllowed, all_ranked};
+ghost use Rattle.amp_terms.specs.Pivots.{noted, planned_outcome, pivot_ranks};
+ghost use Rattle.amp_plan.specs.Ranked.{AreAllowed, NameAllowed, pivot_terms};
 
 use crate::Outcome;
 use crate::word_sum::WordSum;
@@ -74,8 +73,8 @@ pub trait Seen {
 pub fn pivot_value<S: Seen>(plan: &Plan, key: &Key, pivot: u8, seen: &mut S) -> Outcome
     requires planned { IsPlanned (tensors_of plan.now) plan.now.bound key.now }
     requires pivot { 0 < times pivot key.now.idx }
-    requires seen { AreAllowed (S.has seen.old) (ranks_named (keys_of plan.now) (terms (tensors_of plan.now) pivot key.now.g (remove pivot key.now.idx))) }
-    ensures outcome { result ≡ pivot_outcome (tensors_of plan.now) (keys_of plan.now) (S.shown seen.old) key.now pivot }
+    requires seen { AreAllowed (S.has seen.old) (pivot_ranks plan.now pivot key.now) }
+    ensures outcome { result ≡ planned_outcome plan.now (S.shown seen.old) key.now pivot }
     ensures ranks { (r : ℕ) → S.has seen.new r ↔ S.has seen.old r }
     ensures same { S.shown seen.new ≡ S.shown seen.old }
     ensures base { S.made_over seen.new ≡ S.made_over seen.old }
@@ -95,10 +94,11 @@ pub fn pivot_value<S: Seen>(plan: &Plan, key: &Key, pivot: u8, seen: &mut S) -> 
 fn add_terms<S: Seen>(plan: &Plan, key: &Key, pivot: u8, sum: &mut WordSum<'_, S>)
     requires planned { IsPlanned (tensors_of plan.now) plan.now.bound key.now }
     requires pivot { 0 < times pivot key.now.idx }
-    requires seen { NameAllowed (S.has sum.old.any.seen.now) (all_ranked (rank_at plan.now) (terms (tensors_of plan.now) pivot key.now.g (remove pivot key.now.idx))) }
+    requires seen { NameAllowed (S.has sum.old.any.seen.now) (pivot_terms plan.now pivot key.now) }
     requires unblocked { sum.old.any.blocked ≡ None }
     requires zero { sum.old.any.sum ≡ Some 0ℚ }
-    ensures outcome { outcome_from sum.new.any.blocked sum.new.any.sum ≡ pivot_outcome (tensors_of plan.now) (keys_of plan.now) (S.shown sum.old.any.seen.now) key.now pivot }
+    ensures outcome { outcome_from sum.new.any.blocked sum.new.any.sum
+        ≡ planned_outcome plan.now (S.shown sum.old.any.seen.now) key.now pivot }
     ensures same_reference { sum.new.any.seen.ghost_name ≡ sum.old.any.seen.ghost_name }
     ensures ranks { (r : ℕ) → S.has sum.new.any.seen.now r ↔ S.has sum.old.any.seen.now r }
     ensures same { S.shown sum.new.any.seen.now ≡ S.shown sum.old.any.seen.now }
@@ -123,7 +123,13 @@ impl<'a, S: Seen> TermVisitor for PivotSum<'a, S> {
 
     ghost State = { Summing S.Base };
 
-    ghost state = { λ v. record { reader = v.seen.ghost_name; base = S.made_over v.seen.now; shown = S.shown v.seen.now; blocked = v.blocked; sum = v.sum } };
+    ghost state = { λ v. record {
+      reader = v.seen.ghost_name;
+      base = S.made_over v.seen.now;
+      shown = S.shown v.seen.now;
+      blocked = v.blocked;
+      sum = v.sum;
+    } };
 
     ghost step = { with_term };
 

@@ -24,7 +24,13 @@ impl<'a, S: Seen> TermVisitor for WordSum<'a, S> {
 
     ghost State = { Summing S.Base };
 
-    ghost state = { λ v. record { reader = v.any.seen.ghost_name; base = S.made_over v.any.seen.now; shown = S.shown v.any.seen.now; blocked = v.any.blocked; sum = v.any.sum } };
+    ghost state = { λ v. record {
+      reader = v.any.seen.ghost_name;
+      base = S.made_over v.any.seen.now;
+      shown = S.shown v.any.seen.now;
+      blocked = v.any.blocked;
+      sum = v.any.sum;
+    } };
 
     ghost step = { with_term };
 

@@ -1,6 +1,6 @@
 -- The parts of a session.
 use Rattle.std.proofs.KnownBytes.{Appends-trans}
-use Rattle.airy_io.proofs.Prefixes.{AppendsPrefix-more}
+use Rattle.airy_io.proofs.Prefixes.{AppendsPrefix-more, AppendsPrefix-longer}
 use Rattle.airy_math.proofs.PlanOrderLaw.{levels}
 use Rattle.ask_seats.proofs.Names.{◌≡◌, ◌⊎◌, inl, inr, ℕ, zero, suc, ◌<◌, ◌≤◌, ◌+◌, Bool, true, false, List, [], ◌∷◌, ◌++◌, take, drop, length, length-append, get_or, Option, Some, None, arith, refl, sym, ap, ap₂, ◌∙◌, subst, append-nil, append_assoc, take-append-drop, Result, Ok, Err, OnOk, OnErr, drop_more, Appends, AppendsPrefix, Taking, Key, euler_of, IsPlanned, Tensors, StandsIn, limit, Planning, tensors_of, keys_of, key_at, Outcome, cells, Reply, line_text, lines_text, Session, Stage, Replied, IsAdmitted, Admitted, IsOrRestsOn, start, behind, finish, growth, grown, bound_after, bound_behind, finished_behind, session_of, AreAsks, FinishesOnce, Rises, ends_finished, Spoken, CutShort, IsPart, replies_due, IsGood, Stands, stage_after, Wrote, Broke, Speaks, FallsSilent, Carried, Paused, GoesOn, up_to, Line, Ask, Finish, Grow}
 use Rattle.ask_seats.specs.Asks.{StopsAtGrow}
@@ -252,9 +252,6 @@ module _ (p : Planning) (crew : ℕ) (f g : Option ℕ) (Knew Knows : ℕ → Ty
     cut = subst (AppendsPrefix old new) (ap (λ t. lines_text w.replies ++ t) (append-nil (lines_text v.replies)) ∙ sym (text-append w.replies v.replies)) (AppendsPrefix-more old mid new (lines_text w.replies) (lines_text v.replies) [] w.appended v.cut);
   }
 
-longer : (a b : Option (List ℕ)) (xs ys : List ℕ) → AppendsPrefix a b xs → AppendsPrefix a b (xs ++ ys)
-longer a b xs ys h = (h.0, omega (arith, h.1, length-append xs ys), subst (Appends a b) (sym (Rattle.std.proofs.lemmas.List.take-append-le h.0 xs ys h.1)) h.2)
-
 -- where the sink failed among the first lines, the replies to the others are any that are admitted
 pub broke-before : (p : Planning) (crew : ℕ) (st : Stage) (first rest : List Line) (old new : Option (List ℕ)) → IsGood (session_of p crew) st → Rises st.bound (first ++ rest) → Broke p crew st first old new → Broke p crew st (first ++ rest) old new
 broke-before p crew st first rest old new g up w =
@@ -263,7 +260,7 @@ broke-before p crew st first rest old new g up w =
     let more = complete (session_of p crew) (stage_after T st first w.replies) rest along.0 along.1 in record {
       replies = w.replies ++ more.0;
       admitted = replied-append T (IsAdmitted (session_of p crew)) st first rest w.replies more.0 w.admitted more.1;
-      cut = subst (AppendsPrefix old new) (sym (text-append w.replies more.0)) (longer old new (lines_text w.replies) (lines_text more.0) w.cut);
+      cut = subst (AppendsPrefix old new) (sym (text-append w.replies more.0)) (AppendsPrefix-longer old new (lines_text w.replies) (lines_text more.0) w.cut);
     }
 
 -- ---- the whole

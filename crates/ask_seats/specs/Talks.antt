@@ -1,5 +1,6 @@
 -- How a session goes on, line by line: what its seat knows, and what was written.
-use Rattle.std.specs.Prelude.{◌≡◌, ◌⊎◌, ℕ, suc, ◌<◌, ◌≤◌, Bool, true, false, List, [], ◌∷◌, Option, Some, None, Result, OnOk, OnErr, cond, nat_eq, ◌&&◌, ◌+◌, length, drop, slice_index_or, vec_len}
+use Rattle.std.specs.Prelude.{◌≡◌, ◌⊎◌, ℕ, suc, ◌<◌, ◌≤◌, Bool, true, false, List, [], ◌∷◌, Option, Some, None}
+use Rattle.std.specs.Prelude.{Result, OnOk, OnErr, cond, nat_eq, ◌&&◌, ◌+◌, length, drop, slice_index_or, vec_len}
 use Rattle.std.specs.Io.KnownBytes.{Appends}
 use Rattle.airy_io.specs.Causes.{AppendsPrefix}
 use Rattle.airy_io.specs.declared.Failed.{Failed}

@@ -76,8 +76,8 @@ fn go_on<R: Threads + Sync, G: Gate + Sync, W: Sink>(
 /// Answers the lines of a session, part by part. Its parts are parted by the `grow` lines. In each part the lines before `finish` are
 /// answered while so many workers fill the cells of the plan, each asking the gate before a cell, and those behind it when every cell is
 /// filled. At a `grow` the plan is grown, where the greater one is within its limits, and the filled cells are carried over to a new board
-/// with a new crew. Each line is written before the next is begun. The plan, the table and the receipts of the last board are handed out, in which
-/// what was carried over stands before what seat number 0 filled.
+/// with a new crew. Each line is written before the next is begun. The plan, the table and the receipts of the last board are handed
+/// out, in which what was carried over stands before what seat number 0 filled.
 pub fn session<R: Threads + Sync, G: Gate + Sync, W: Sink>(
     rt: &R,
     alloc: Global,

@@ -11,6 +11,7 @@ use Rattle.bulk_tensors.specs.declared.slots.Slot.TheVariants.{First, Second, Th
 use Rattle.bulk_tensors.specs.declared.slots.Gain.{Gain}
 use Rattle.bulk_tensors.specs.Full.{SameBelow}
 use Rattle.bulk_tensors.specs.Change.{gained, obtained_entry, obtained_gained, at_slot, slot_by_slot, gains, all_below, slot_obtained, slots_obtained, parts_obtained, gains_obtained}
+use Rattle.std.proofs.Math.Bool.{and-false}
 
 -- ---- columns that agree below n
 
@@ -47,17 +48,13 @@ unfolding all_below
 all_true zero f h = refl
 all_true (suc n) f h = ap₂ ◌&&◌ (all_true n f (λ i p. h i (omega arith))) (h n (omega arith))
 
-and_false : (a : Bool) → (a && false) ≡ false
-and_false true = refl
-and_false false = refl
-
 all_false : (n : ℕ) (f : ℕ → Bool) (i : ℕ) → i < n → f i ≡ false → all_below n f ≡ false
 unfolding all_below
 all_false zero f i p h = absurd (omega arith)
 all_false (suc n) f i p h = by (cases_eq i n) (λ q. all_false n f i q h)
   where
     by : (i ≡ n) ⊎ (i ≡ n → ⊥) → (i < n → all_below n f ≡ false) → (all_below n f && f n) ≡ false
-    by (inl e) below = ap (λ b. all_below n f && b) (ap f (sym e) ∙ h) ∙ and_false (all_below n f)
+    by (inl e) below = ap (λ b. all_below n f && b) (ap f (sym e) ∙ h) ∙ and-false (all_below n f)
     by (inr e) below = ap (λ b. b && f n) (below (omega arith))
 
 pub slot_obtained_same : (slot : Slot) (n : ℕ) (m : Gain) (F G : ℕ → ℕ → ℕ → ℚ) → m.from < n → SameBelow n F G → slot_obtained n slot m F ≡ slot_obtained n slot m G

@@ -13,6 +13,7 @@ use Rattle.bulk_tensors.specs.Full.{Lists, entry, listed, zero_lists, with_diago
 use Rattle.bulk_tensors.proofs.FullLemmas.{entry-set_same, entry-set_other}
 use Rattle.bulk_tensors.proofs.FilledLemmas.{before_more}
 use Rattle.airy_math.proofs.SumLemmas.{when_true, when_false}
+use Rattle.airy_math.proofs.PivotLaw.{when-of_zero}
 
 -- the list has f on the diagonal before n, and 0 elsewhere
 pub record IsDiagonal (n : ℕ) (f : ℕ → ℚ) (l : List ℚ) : Type 0 where
@@ -30,16 +31,11 @@ off : (f : ℕ → ℚ) (i j k : ℕ) → (i ≡ j → i ≡ k → ⊥) → on_d
 unfolding on_diagonal
 off f i j k h = when_false (eqb i j && eqb i k) (f i) (grind (arith, nat_tests))
 
-when_zero : (b : Bool) (x : ℚ) → x ≡ 0ℚ → when b x ≡ 0ℚ
-unfolding when
-when_zero true x h = h
-when_zero false x h = refl
-
 diagonal_next : (n : ℕ) (f : ℕ → ℚ) (l : List ℚ) (v : ℚ) → n < 8 → v ≡ f n → IsDiagonal n f l → IsDiagonal (n + 1) f (set l (64 * n + 8 * n + n) v)
 diagonal_next n f l v small e h = record { long = length-set l (64 * n + 8 * n + n) v ∙ h.long; at = λ i j k p q r. by i j k p q r (cases_eq (64 * i + 8 * j + k) (64 * n + 8 * n + n)) }
   where
     stays : (i j k : ℕ) → i < 8 → j < 8 → k < 8 → (64 * i + 8 * j + k ≡ 64 * n + 8 * n + n → ⊥) → (i ≡ n) ⊎ (i ≡ n → ⊥) → when (ltb i n) (on_diagonal f i j k) ≡ when (ltb i (n + 1)) (on_diagonal f i j k)
-    stays i j k p q r x (inl y) = let zero = off f i j k (λ s t. x (omega arith)) in when_zero (ltb i n) _ zero ∙ sym (when_zero (ltb i (n + 1)) _ zero)
+    stays i j k p q r x (inl y) = let zero = off f i j k (λ s t. x (omega arith)) in when-of_zero (ltb i n) _ zero ∙ sym (when-of_zero (ltb i (n + 1)) _ zero)
     stays i j k p q r x (inr y) = ap (λ b. when b (on_diagonal f i j k)) (before_more i n y)
 
     by : (i j k : ℕ) → i < 8 → j < 8 → k < 8 → (64 * i + 8 * j + k ≡ 64 * n + 8 * n + n) ⊎ (64 * i + 8 * j + k ≡ 64 * n + 8 * n + n → ⊥) → entry (set l (64 * n + 8 * n + n) v) i j k ≡ when (ltb i (n + 1)) (on_diagonal f i j k)

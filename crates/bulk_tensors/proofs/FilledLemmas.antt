@@ -11,11 +11,12 @@ use Rattle.airy_math.proofs.PivotLemmas.{zero_number}
 use Rattle.sparse_tensor.specs.Entries.{Entry, Entries, no_entries, looked_up, same_place, value_at, with_entry, value_of, with_value, is_given}
 use Rattle.sparse_tensor.specs.Grades.{AreEntries, AreStored, keeps, keeps_a, keeps_b, keeps_c, keeps_d}
 use Rattle.sparse_tensor.specs.Puts.{IsAllowed, putting_a, putting_b, putting_c, putting_d, with_a, with_b, with_c, with_d}
-use Rattle.sparse_tensor.proofs.PutFacts.{allowed_a, allowed_b, allowed_c, allowed_d}
+use Rattle.sparse_tensor.proofs.PutFacts.{allowed_a, allowed_b, allowed_c, allowed_d, ordered_ends, with_d-is}
 use Rattle.sparse_tensor.proofs.EntryLemmas.{value_at-with_entry, value_of-with_value, free_from_zero, not_given_from_zero}
 use Rattle.bulk_tensors.specs.Full.{Lists, entry, listed}
 use Rattle.bulk_tensors.specs.Filled.{Filled, ordered, AreFilled}
 use Rattle.airy_math.proofs.SumLemmas.{when_true, when_false}
+use Rattle.airy_math.proofs.KeyLemmas.{ltb-self}
 
 -- ---- one entry more in a list
 
@@ -62,13 +63,10 @@ stored_else grade dim es i j k v a b c h zero other = by (is_zero v)
 pub before_more : (n p : ℕ) → (n ≡ p → ⊥) → ltb n p ≡ ltb n (p + 1)
 before_more n p h = grind (arith, nat_tests)
 
-is_here : (n : ℕ) → ltb n n ≡ false
-is_here n = grind (arith, nat_tests)
-
 -- the next place holds 0
 pub filled_zero : (dim i j k : ℕ) (F : ℕ → ℕ → ℕ → ℚ) (es : List Entry) → Filled dim (64 * i + 8 * j + k) F es → i < dim → j < dim → k < dim → value_at es i j k ≡ 0ℚ
 unfolding Filled
-filled_zero dim i j k F es h p q r = h i j k p q r ∙ when_false (ltb (64 * i + 8 * j + k) (64 * i + 8 * j + k)) (F i j k) (is_here (64 * i + 8 * j + k))
+filled_zero dim i j k F es h p q r = h i j k p q r ∙ when_false (ltb (64 * i + 8 * j + k) (64 * i + 8 * j + k)) (F i j k) (ltb-self (64 * i + 8 * j + k))
 
 pub filled_next : (grade : ℕ → ℕ → ℕ → Bool) (dim n i j k : ℕ) (F : ℕ → ℕ → ℕ → ℚ) (es : List Entry) (v : ℚ) → AreStored grade n es → dim ≤ 8 → i < dim → j < dim → k < dim → v ≡ F i j k → Filled dim (64 * i + 8 * j + k) F es → Filled dim (64 * i + 8 * j + k + 1) F (stored es i j k v)
 unfolding Filled
@@ -116,19 +114,16 @@ b_only : (t : Entries) (i j k : ℕ) (v : ℚ) → with_b t i j k v ≡ record t
 unfolding with_b
 b_only t i j k v = cond_under (λ (es : List Entry). record t { b = es }) (is_zero v) t.b (with_entry (record { i = i; j = j; k = k; v = v }) t.b)
 
-least_most : (j k : ℕ) → j ≤ k → (min j k ≡ j) × (max j k ≡ k)
-least_most j k h = (omega arith, omega arith)
-
 a_only : (t : Entries) (i j k : ℕ) (v : ℚ) → j ≤ k → with_a t i j k v ≡ record t { a = stored t.a i j k v }
 unfolding with_a
 a_only t i j k v h =
-    let e = least_most j k h in
+    let e = ordered_ends j k h in
     rw (e.0, e.1) (cond_under (λ (es : List Entry). record t { a = es }) (is_zero v) t.a (with_entry (record { i = i; j = j; k = k; v = v }) t.a))
 
 c_only : (t : Entries) (i j k : ℕ) (v : ℚ) → j ≤ k → with_c t i j k v ≡ record t { c = stored t.c i j k v }
 unfolding with_c
 c_only t i j k v h =
-    let e = least_most j k h in
+    let e = ordered_ends j k h in
     rw (e.0, e.1) (cond_under (λ (es : List Entry). record t { c = es }) (is_zero v) t.c (with_entry (record { i = i; j = j; k = k; v = v }) t.c))
 
 in_order : (F : ℕ → ℕ → ℕ → ℚ) (i j k : ℕ) → j ≤ k → F i j k ≡ ordered F i j k
@@ -163,7 +158,7 @@ filled_b from t i j k v sound most p q r e h =
 pub may_put_a : {b c d : ℕ} (from : Lists) (t : Entries) (i j k : ℕ) (v : ℚ) → AreEntries t → i < from.dim → j < from.dim → k < from.dim → j ≤ k → AreFilled (64 * i + 8 * j + k) b c d from t → IsAllowed (putting_a t i j k v)
 unfolding keeps_a keeps looked_up
 may_put_a from t i j k v sound p q r o h =
-    let e = least_most j k o in
+    let e = ordered_ends j k o in
     allowed_a t i j k v sound (within from t i h p) (within from t j h q) (within from t k h r) (ap (λ s. keeps_a s i j k) h.shape) (rw (e.0, e.1) (filled_zero from.dim i j k (ordered (entry from.a)) t.a h.of_a p q r))
 
 pub filled_a : {b c d : ℕ} (from : Lists) (t : Entries) (i j k : ℕ) (v : ℚ) → AreEntries t → from.dim ≤ 8 → i < from.dim → j < from.dim → k < from.dim → j ≤ k → v ≡ entry from.a i j k → AreFilled (64 * i + 8 * j + k) b c d from t → AreFilled (64 * i + 8 * j + k + 1) b c d from (with_a t i j k v)
@@ -181,7 +176,7 @@ filled_a from t i j k v sound most p q r o e h =
 pub may_put_c : {a b d : ℕ} (from : Lists) (t : Entries) (i j k : ℕ) (v : ℚ) → AreEntries t → i < from.dim → j < from.dim → k < from.dim → j ≤ k → AreFilled a b (64 * i + 8 * j + k) d from t → IsAllowed (putting_c t i j k v)
 unfolding keeps_c keeps looked_up
 may_put_c from t i j k v sound p q r o h =
-    let e = least_most j k o in
+    let e = ordered_ends j k o in
     allowed_c t i j k v sound (within from t i h p) (within from t j h q) (within from t k h r) (ap (λ s. keeps_c s i j k) h.shape) (rw (e.0, e.1) (filled_zero from.dim i j k (ordered (entry from.c)) t.c h.of_c p q r))
 
 pub filled_c : {a b d : ℕ} (from : Lists) (t : Entries) (i j k : ℕ) (v : ℚ) → AreEntries t → from.dim ≤ 8 → i < from.dim → j < from.dim → k < from.dim → j ≤ k → v ≡ entry from.c i j k → AreFilled a b (64 * i + 8 * j + k) d from t → AreFilled a b (64 * i + 8 * j + k + 1) d from (with_c t i j k v)
@@ -228,12 +223,8 @@ filled_outside p d from t most none h = record {
 
 -- ---- D
 
-d_only : (t : Entries) (i : ℕ) (v : ℚ) → with_d t i v ≡ record t { d = cond (is_zero v) t.d (with_value i v t.d) }
-unfolding with_d
-d_only t i v = cond_under (λ (es : List (ℕ × ℚ)). record t { d = es }) (is_zero v) t.d (with_value i v t.d)
-
 d_zero : {a b c : ℕ} (i : ℕ) (from : Lists) (t : Entries) → i < from.dim → AreFilled a b c i from t → value_of t.d i ≡ 0ℚ
-d_zero i from t p h = h.of_d i p ∙ when_false (ltb i i) (get_or from.d i 0ℚ) (is_here i)
+d_zero i from t p h = h.of_d i p ∙ when_false (ltb i i) (get_or from.d i 0ℚ) (ltb-self i)
 
 pub may_put_d : {a b c : ℕ} (from : Lists) (t : Entries) (i : ℕ) (v : ℚ) → AreEntries t → i < from.dim → AreFilled a b c i from t → IsAllowed (putting_d t i v)
 unfolding keeps_d keeps looked_up
@@ -241,7 +232,7 @@ may_put_d from t i v sound p h = allowed_d t i v sound (within from t i h p) (ap
 
 pub filled_d : {a b c : ℕ} (from : Lists) (t : Entries) (i : ℕ) (v : ℚ) → AreEntries t → i < from.dim → v ≡ get_or from.d i 0ℚ → AreFilled a b c i from t → AreFilled a b c (i + 1) from (with_d t i v)
 filled_d from t i v sound p e h =
-    subst (AreFilled _ _ _ _ from) (sym (d_only t i v)) (record {
+    subst (AreFilled _ _ _ _ from) (sym (with_d-is t i v)) (record {
       dim = h.dim;
       shape = h.shape;
       letter = h.letter;

@@ -1,6 +1,7 @@
 -- The frontier board: word 0 counts the published levels, a level being the keys of one Euler number, and four value words of each
 -- cell follow, in plan order.
-use Rattle.std.specs.Prelude.{◌≡◌, ℕ, suc, ◌+◌, ◌-◌, ◌*◌, ◌/◌, ◌%◌, ◌<◌, ◌≤◌, List, [], ◌++◌, length, map, take, drop, replicate, slice_index, Option, Some, None, max, false}
+use Rattle.std.specs.Prelude.{◌≡◌, ℕ, suc, ◌+◌, ◌-◌, ◌*◌, ◌/◌, ◌%◌, ◌<◌, ◌≤◌, List, [], ◌++◌, length}
+use Rattle.std.specs.Prelude.{map, take, drop, replicate, slice_index, Option, Some, None, max, false}
 use mathlib.Core.Option.{some}
 use lib.ListN.{get_elem?}
 use Rattle.airy_math.specs.declared.Shape.TheVariants.{All}

@@ -13,7 +13,8 @@ impl Countdown {
     ghost use Rattle.cell_words.specs.declared.view.Act.{Act};
     ghost use Rattle.cell_words.specs.Countdown.{act_in, IsWhole};
     ghost use Rattle.cell_words.specs.Seats.{IsResting, IsToken, view_of, plan_of, number_of, held_of, done_of, HasSameDone};
-    ghost use Rattle.cell_words.specs.Deals.{AreSeats, AreAll, AreTaken, IsGathered, IsAfter, EachIs, OthersAre, KnowsNeeds, first_receipt, receipts_of};
+    ghost use Rattle.cell_words.specs.Deals.{AreSeats, AreAll, AreTaken, IsGathered, IsAfter};
+    ghost use Rattle.cell_words.specs.Deals.{EachIs, OthersAre, KnowsNeeds, first_receipt, receipts_of};
     ghost use Rattle.cell_words.specs.declared.countdown.CountSeat.{CountSeat};
 
     /// Fills a cell whose needs the seat knows, where it isn't filled. The seat has all portions, so no other can be at the cell.

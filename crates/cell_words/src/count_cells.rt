@@ -31,7 +31,8 @@ impl Countdown {
 
 impl Cells for Countdown {
     ghost use Rattle.cell_words.specs.Countdown.{Known};
-    ghost use Rattle.cell_words.specs.Seats.{IsSeatOf, view_of, latest_word, IsLookAt, ShowsUnfilled as shows_unfilled, standing_of, plan_of as its_plan};
+    ghost use Rattle.cell_words.specs.Seats.{IsSeatOf, view_of, latest_word, IsLookAt};
+    ghost use Rattle.cell_words.specs.Seats.{ShowsUnfilled as shows_unfilled, standing_of, plan_of as its_plan};
 
     type Seat = CountSeat;
 

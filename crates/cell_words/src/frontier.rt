@@ -141,7 +141,8 @@ impl Cells for Frontier {
     ghost use Rattle.cell_words.specs.Looks.{Answers};
     ghost use Rattle.cell_words.specs.Layout.{cells};
     ghost use Rattle.cell_words.specs.Levels.{cells_to};
-    ghost use Rattle.cell_words.specs.LevelSeats.{plan_of as its_plan, looks_of, latest_of, HasLooked, IsAsker, ShowsUnfilled as shows_unfilled, Knows as IsKnown};
+    ghost use Rattle.cell_words.specs.LevelSeats.{plan_of as its_plan, looks_of, latest_of, HasLooked};
+    ghost use Rattle.cell_words.specs.LevelSeats.{IsAsker, ShowsUnfilled as shows_unfilled, Knows as IsKnown};
 
     type Seat = LevelSeat;
 

@@ -1,5 +1,6 @@
 // The rule of the countdown board, and what its steps tell.
-ghost use Rattle.cell_words.specs.Countdown.{Keeps, first_view, Looked, Claimed, Wrote, Filled, Signed, Read, left_part, right_part, joined, spent};
+ghost use Rattle.cell_words.specs.Countdown.{Keeps, first_view, Looked, Claimed, Wrote, Filled};
+ghost use Rattle.cell_words.specs.Countdown.{Signed, Read, left_part, right_part, joined, spent};
 
 use crate::view::{Base, View};
 use atomic_table::{Join, Play, Split, TableRule};

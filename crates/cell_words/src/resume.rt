@@ -1,5 +1,6 @@
 // How a board begins with the outcomes of a table.
-ghost use Rattle.std.specs.Prelude.{◌≡◌, ◌⊎◌, ℕ, suc, ◌+◌, ◌*◌, ◌<◌, ◌≤◌, length, IfOk, get_or, None, not, slice_index, vec_len, vec_capacity};
+ghost use Rattle.std.specs.Prelude.{◌≡◌, ◌⊎◌, ℕ, suc, ◌+◌, ◌*◌, ◌<◌, ◌≤◌, length, IfOk};
+ghost use Rattle.std.specs.Prelude.{get_or, None, not, slice_index, vec_len, vec_capacity};
 ghost use Rattle.amp_plan.specs.Needs.{needs_at};
 ghost use Rattle.cell_words.specs.Countdown.{FILLED, count_of};
 ghost use Rattle.cell_words.specs.Layout.{cells};

@@ -1,6 +1,7 @@
 ghost use Rattle.std.specs.Prelude.{◌≡◌, ◌+◌, map, string_bytes, IfOk};
 ghost use Rattle.command_words.specs.Words.{settled};
-ghost use Rattle.command_words.specs.Options.{read_bulk, read_number, read_probe, read_relations, read_session, read_table, read_volume, reading_of};
+ghost use Rattle.command_words.specs.Options.{read_bulk, read_number, read_probe, read_relations};
+ghost use Rattle.command_words.specs.Options.{read_session, read_table, read_volume, reading_of};
 ghost use Rattle.command_words.specs.FirstRefused.{RefusesFirst};
 ghost use Rattle.command_words.specs.Asked.{reading, reading_by, parted_of, IsFit, IsLeft};
 

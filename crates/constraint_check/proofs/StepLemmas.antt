@@ -14,6 +14,7 @@ use Rattle.amp_terms.specs.Outcomes.{has_value, value_or_zero}
 use Rattle.amp_terms.specs.Tables.{value_of}
 use Rattle.series_law.proofs.ScansLaw.{times_has}
 use Rattle.series_law.specs.Scans.{Failing, judged, failing_pivot, of_key, failing_key}
+use Rattle.std.proofs.Math.Numerals.{suc-eq-add-one}
 
 -- ---- one pivot
 
@@ -68,9 +69,6 @@ stands_at [] k h = absurd (omega arith)
 stands_at (x ∷ xs) zero h = inl refl
 stands_at (x ∷ xs) (suc k) h = inr (stands_at xs k (omega arith))
 
-one_more : (n : ℕ) → suc n ≡ n + 1
-one_more n = omega arith
-
 module _ (T : Tensors) (F : Key → ℚ) (looks : Key → ℕ → Bool) (key : Key) where
   -- the first that fails from a place on
   abbrev pub from : List ℕ → ℕ → Option Failing
@@ -87,7 +85,7 @@ module _ (T : Tensors) (F : Key → ℚ) (looks : Key → ℕ → Bool) (key : K
 
   -- the index at a place decides first
   decides : (xs : List ℕ) (k : ℕ) → k < length xs → from xs k ≡ cond (looks key (get_or xs k 0)) (said (get_or xs k 0) (from xs (k + 1))) (from xs (k + 1))
-  decides xs k h = at_place xs k h ∙ ap (λ n. cond (looks key (get_or xs k 0)) (said (get_or xs k 0) (from xs n)) (from xs n)) (one_more k)
+  decides xs k h = at_place xs k h ∙ ap (λ n. cond (looks key (get_or xs k 0)) (said (get_or xs k 0) (from xs n)) (from xs n)) (suc-eq-add-one k)
 
   -- one that isn't looked at, or is like the next one, decides nothing
   pub skipped : (xs : List ℕ) (k : ℕ) → k < length xs → (looks key (get_or xs k 0) ≡ false) ⊎ ((k + 1 < length xs) × (get_or xs (k + 1) 0 ≡ get_or xs k 0)) → from xs k ≡ from xs (k + 1)
@@ -145,7 +143,7 @@ module _ (T : Tensors) (F : Key → ℚ) (looks : Key → ℕ → Bool) where
       → failing_key T F looks (drop r keys) ≡ of_key key o (failing_key T F looks (drop (r + 1) keys))
   key_decides keys r h key k G same o e =
       keys_from keys r h
-      ∙ ap₂ (λ q n. of_key q (failing_pivot T F looks q q.idx) (failing_key T F looks (drop n keys))) (sym k) (one_more r)
+      ∙ ap₂ (λ q n. of_key q (failing_pivot T F looks q q.idx) (failing_key T F looks (drop n keys))) (sym k) (suc-eq-add-one r)
       ∙ ap (λ u. of_key key u (failing_key T F looks (drop (r + 1) keys))) (ap (λ G. failing_pivot T G looks key key.idx) (sym same) ∙ sym e)
 
   pub no_keys : (keys : List Key) (r : ℕ) → length keys ≤ r → failing_key T F looks (drop r keys) ≡ None

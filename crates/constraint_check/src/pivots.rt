@@ -114,7 +114,8 @@ fn check_key<S: Seen>(
     requires shows { ShowsValues plan.now (S.has seen.old) (S.shown seen.old) }
     requires planned { IsPlanned (tensors_of plan.now) plan.now.bound key.now }
     requires value { value ≡ numbers_shown plan.now (S.shown seen.old) key.now }
-    ensures fails { result ≡ failing_pivot (tensors_of plan.now) (numbers_shown plan.now (S.shown seen.old)) (looks pivots) key.now key.now.idx }
+    ensures fails { result ≡
+        failing_pivot (tensors_of plan.now) (numbers_shown plan.now (S.shown seen.old)) (looks pivots) key.now key.now.idx }
     ensures shows { ShowsValues plan.now (S.has seen.new) (S.shown seen.new) }
     ensures same { S.shown seen.new ≡ S.shown seen.old }
 {

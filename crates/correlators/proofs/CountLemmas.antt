@@ -2,6 +2,7 @@
 use Rattle.std.proofs.Common.{◌≡◌, ℕ, zero, suc, ◌+◌, ◌-◌, ◌*◌, ◌<◌, ◌≤◌, List, [], ◌∷◌, map, length, refl, sym, ap, ap₂, ◌∙◌, arith, length-append}
 use Rattle.correlators.proofs.Words.{length-map, euler, below, count_from, each, binomial, binomial-over, binomial-zero, lists_of_sum, lists_up_to, greatest_sum, counted}
 use Rattle.correlators.proofs.ListLemmas.{each-next}
+use Rattle.airy_math.proofs.SplitLemmas.{binomial-all, binomial-suc}
 
 -- a first number that is given by the others
 length-each : (s : ℕ) (f : ℕ → List (List ℕ)) (ks : List ℕ) → length (each ks (λ k. map (λ ds. (s - k) ∷ ds) (f k))) ≡ length (each ks f)
@@ -38,22 +39,13 @@ unfolding lists_of_sum
 no_number zero = no_sum 0
 no_number (suc s) = next_sum 0 s ∙ omega (arith, no_number s)
 
-all_of_all : (n : ℕ) → binomial n n ≡ 1
-unfolding binomial
-all_of_all zero = refl
-all_of_all (suc n) = omega (arith, all_of_all n, binomial-over n (suc n) (omega arith))
-
-pascal : (n t : ℕ) → binomial (suc n) (suc t) ≡ binomial n t + binomial n (suc t)
-unfolding binomial
-pascal n t = refl
-
 row : (n : ℕ) → ((s : ℕ) → length (lists_up_to n s) ≡ binomial (s + n) n) → (s : ℕ) → length (lists_up_to (suc n) s) ≡ binomial (s + suc n) (suc n)
-row n below_row zero = let e : 0 + suc n ≡ suc n = omega arith in no_sum (suc n) ∙ sym (ap (λ m. binomial m (suc n)) e ∙ all_of_all (suc n))
+row n below_row zero = let e : 0 + suc n ≡ suc n = omega arith in no_sum (suc n) ∙ sym (ap (λ m. binomial m (suc n)) e ∙ binomial-all (suc n))
 row n below_row (suc s) =
     let e : suc s + n ≡ s + suc n = omega arith in
     let t : suc s + suc n ≡ suc (s + suc n) = omega arith in
     next_sum (suc n) s ∙ ap₂ (λ a b. a + b) (row n below_row s) (one_more n (suc s) ∙ below_row (suc s) ∙ ap (λ m. binomial m n) e)
-    ∙ swap (binomial (s + suc n) (suc n)) (binomial (s + suc n) n) ∙ sym (ap (λ m. binomial m (suc n)) t ∙ pascal (s + suc n) n)
+    ∙ swap (binomial (s + suc n) (suc n)) (binomial (s + suc n) n) ∙ sym (ap (λ m. binomial m (suc n)) t ∙ binomial-suc (s + suc n) n)
   where
     swap : (a b : ℕ) → a + b ≡ b + a
     swap a b = omega arith

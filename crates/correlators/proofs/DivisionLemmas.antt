@@ -2,10 +2,6 @@
 use Rattle.std.proofs.Common.{◌≡◌, ℕ, suc, ◌+◌, ◌-◌, ◌<◌, ◌≤◌, map, Option, Some, refl, arith, pos, option_and_then}
 use Rattle.correlators.proofs.Words.{dvd_antisymm, one-dvd, gcd, IsGcd-gcd, ℚ, ◌/ℚ◌, count_from, obtained_product, divided}
 
--- 1/q is in lowest terms
-pub one_lowest : (q : ℕ) → gcd 1 q ≡ 1
-one_lowest q = dvd_antisymm (IsGcd-gcd 1 q).0 (one-dvd (gcd 1 q))
-
 -- what is left at k: over f k, f (k + 1), .., f (n - 1)
 abbrev pub left : (ℕ → ℕ) → ℕ → ℕ → ℚ → Option ℚ
 left f n k v = divided (map f (count_from k (n - k))) v

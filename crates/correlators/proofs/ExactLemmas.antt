@@ -2,7 +2,7 @@
 use Rattle.std.proofs.Common.{◌≡◌, ℕ, zero, suc, ◌+◌, ◌*◌, ◌/◌, ◌<◌, List, [], ◌∷◌, map, Option, Some, None, refl, sym, ap, subst, ◌∙◌, arith, pos, option_and_then}
 use Rattle.correlators.proofs.Words.{mul-div_cancel_left, ℚ, ◌/ℚ◌, ◌*ℚ◌, 1ℚ, *ℚ_assoc, mul_fractions, below, count_from, factorial, obtained_product, product_exact, 1ℚ_idr, odd_factorial, odd_factorials, length_factorials, divided, divisors, over_indices, over_odd_factorials, over_factorials}
 use Rattle.std.proofs.Math.Nat.{div-one}
-use Rattle.airy_math.proofs.ConstraintLemmas.{both_positive}
+use Rattle.airy_math.specs.RationalLaws.{positive_times}
 
 over_both : (v : ℚ) (m n : ℕ) → 0 < m → 0 < n → (v *ℚ (pos 1 /ℚ m)) *ℚ (pos 1 /ℚ n) ≡ v *ℚ (pos 1 /ℚ (m * n))
 over_both v m n h k = *ℚ_assoc v (pos 1 /ℚ m) (pos 1 /ℚ n) ∙ ap (λ x. v *ℚ x) (mul_fractions (pos 1) (pos 1) m n h k)
@@ -21,11 +21,11 @@ module _ (step : ℕ) (P : ℕ → ℕ) (first : P 0 ≡ 1) (next : (k : ℕ) �
     (whole : List ℕ → ℕ) (none : whole [] ≡ 1) (more : (d : ℕ) (ds : List ℕ) → whole (d ∷ ds) ≡ P (2 * d / step) * whole ds) where
   some : (k : ℕ) → 0 < P k
   some zero = omega (arith, first)
-  some (suc k) = subst (λ n. 0 < n) (sym (next k)) (both_positive (P k) (step * k + (step + 1)) (some k) (omega arith))
+  some (suc k) = subst (λ n. 0 < n) (sym (next k)) (positive_times (P k) (step * k + (step + 1)) (some k) (omega arith))
 
   all_some : (ds : List ℕ) → 0 < whole ds
   all_some [] = omega (arith, none)
-  all_some (d ∷ ds) = subst (λ n. 0 < n) (sym (more d ds)) (both_positive (P (2 * d / step)) (whole ds) (some (2 * d / step)) (all_some ds))
+  all_some (d ∷ ds) = subst (λ n. 0 < n) (sym (more d ds)) (positive_times (P (2 * d / step)) (whole ds) (some (2 * d / step)) (all_some ds))
 
   from_the : (n k : ℕ) (v w : ℚ) → divided (map (λ k. step * k + (step + 1)) (count_from k n)) (v *ℚ (pos 1 /ℚ P k)) ≡ Some w → w ≡ v *ℚ (pos 1 /ℚ P (k + n))
   unfolding divided count_from

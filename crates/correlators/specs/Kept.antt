@@ -18,7 +18,8 @@ use Rattle.amp_terms.specs.declared.Outcome.{Outcome}
 use Rattle.correlators.specs.declared.refusals.CorrErr.{CorrErr}
 use Rattle.correlators.specs.declared.refusals.CorrErr.TheVariants as refused
 use Rattle.correlators.specs.declared.polynomial.Term.{Term}
-use Rattle.correlators.specs.Volumes.{is_of, keys_of_pair, coefficient_of, first_lacking, term_of, parts_of, greatest_sum}
+use Rattle.correlators.specs.declared.lists.Source.{Source}
+use Rattle.correlators.specs.Volumes.{is_of, keys_of_pair, coefficient_of, first_lacking, term_of, parts_of, greatest_sum, lists_up_to}
 
 -- A pair that the plan and the pair alone don't refuse, of tensors with the law of Weil and Petersson.
 pub record IsAsked (p : Planning) (g n : ℕ) : Type 0 where
@@ -54,3 +55,11 @@ behind prefix ls = map (λ ds. prefix ++ ds) ls
 unfoldable pub AddsTerms : Planning → ℕ → ℕ → List ℚ → List (List ℕ) → List Term → List Term → Type 0
 AddsTerms p g n numbers ls old new = (cells : List (Option Outcome)) → AreCoefficients p cells g n (length (keys_of p)) numbers
     → parts_of new ≡ parts_of old ++ each ls (term_of p cells g)
+
+-- The same of what the terms are made of.
+abbrev pub AddsOf : Source → List (List ℕ) → List Term → List Term → Type 0
+AddsOf s ls old new = AddsTerms s.plan.now s.genus s.places s.coefficients.now ls old new
+
+-- all lists that have a term, in order
+abbrev pub lists_of : Source → List (List ℕ)
+lists_of s = lists_up_to s.places (greatest_sum s.genus s.places)

@@ -1,8 +1,8 @@
-ghost use Rattle.std.specs.Prelude.{◌≡◌, ◌+◌, ◌*◌, ◌≤◌, ◌++◌, ◌∷◌, [], length, map, OnOk};
+ghost use Rattle.std.specs.Prelude.{◌≡◌, ◌+◌, ◌*◌, ◌≤◌, ◌∷◌, [], length, map, OnOk};
 ghost use Rattle.airy_math.specs.Keys.{total};
 ghost use Rattle.amp_plan.specs.Plans.{keys_of};
 ghost use Rattle.correlators.specs.Volumes.{greatest_sum, lists_of_sum};
-ghost use Rattle.correlators.specs.Kept.{IsAsked, AddsTerms, behind};
+ghost use Rattle.correlators.specs.Kept.{IsAsked, behind, AddsOf};
 
 use crate::Term;
 use airy_index::Key;
@@ -39,7 +39,7 @@ fn add_term(terms: &mut Vec<Term>, source: &Source<'_>, list: &[u8]) -> Result<(
     requires len { length source.now.coefficients.now ≡ length (keys_of source.now.plan.now) }
     requires places { length list.now ≡ source.now.places }
     requires sum { total list.now ≤ greatest_sum source.now.genus source.now.places }
-    ensures { OnOk result (AddsTerms source.now.plan.now source.now.genus source.now.places source.now.coefficients.now (list.now ∷ []) terms.old.items terms.new.items) }
+    ensures { OnOk result (AddsOf source.now (list.now ∷ []) terms.old.items terms.new.items) }
 {
     source.plan.planned_fact();
     let Ok(key) = Key::of(source.genus, list) else {
@@ -75,7 +75,7 @@ pub(crate) fn add_terms(
     requires places { length prefix.old.items + places ≡ source.now.places }
     requires sum { total prefix.old.items + left ≤ greatest_sum source.now.genus source.now.places }
     ensures prefix { prefix.new ≡ prefix.old }
-    ensures added { OnOk result (AddsTerms source.now.plan.now source.now.genus source.now.places source.now.coefficients.now (behind prefix.old.items (lists_of_sum places left)) terms.old.items terms.new.items) }
+    ensures added { OnOk result (AddsOf source.now (behind prefix.old.items (lists_of_sum places left)) terms.old.items terms.new.items) }
 {
     if places == 1 {
         prefix.push(left);

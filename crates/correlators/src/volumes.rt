@@ -1,10 +1,10 @@
-ghost use Rattle.std.specs.Prelude.{◌≡◌, ◌<◌, ◌≤◌, true, [], length, None, OnOk, IfOk};
+ghost use Rattle.std.specs.Prelude.{◌≡◌, ◌<◌, ◌≤◌, true, [], length, None, IfOk};
 ghost use Rattle.airy_math.specs.Keys.{euler};
 ghost use Rattle.airy_math.specs.Families.{wp_shape};
 ghost use Rattle.amp_plan.specs.Plans.{keys_of};
 ghost use Rattle.series_law.specs.Amplitudes.{HoldsOutcomes};
-ghost use Rattle.correlators.specs.Volumes.{greatest_sum, lists_up_to, parts_of, asked_refusal, IsVolume};
-ghost use Rattle.correlators.specs.Kept.{IsAsked, AddsTerms};
+ghost use Rattle.correlators.specs.Volumes.{parts_of, asked_refusal, IsVolume};
+ghost use Rattle.correlators.specs.Kept.{IsAsked, AddsOf, lists_of};
 ghost use Rattle.correlators.specs.Laws.{VolumeOfSolutions};
 
 use crate::coefficients::{coefficients, first_without};
@@ -27,9 +27,9 @@ const MOST_LISTS: u64 = 100_000;
 /// the table holds its rank's outcome, the polynomial is the volume of every solution.
 ///
 /// The refusals, in this order: `Kind` exactly where the tensors carry no letter, `Beyond` exactly where the Euler number is above the
-/// bound, `Terms` exactly where there are more than 100,000 lists, `Index` exactly where an index of a covered key of (g,n) isn't below dim,
-/// `NotValue` exactly where the table has no Value at some planned key of (g,n), and `Over` exactly where a step of the division of one
-/// leaves the range; both name the first such key in plan order. `NoMemory` may come at any step behind `Index`.
+/// bound, `Terms` exactly where there are more than 100,000 lists, `Index` exactly where an index of a covered key of (g,n) isn't below
+/// dim, `NotValue` exactly where the table has no Value at some planned key of (g,n), and `Over` exactly where a step of the division
+/// of one leaves the range; both name the first such key in plan order. `NoMemory` may come at any step behind `Index`.
 pub fn volume(alloc: Global, plan: &Plan, table: &Table, g: u8, n: u8) -> Result<Poly, CorrErr>
     requires len { length table.now ≡ length (keys_of plan.now) }
     requires stable { 0 < euler g n }
@@ -93,7 +93,7 @@ fn refused(plan: &Plan, g: u8, n: u8) -> Option<CorrErr>
 fn all_terms(alloc: Global, source: &Source<'_>) -> Result<Vec<Term>, AllocError>
     requires asked { IsAsked source.now.plan.now source.now.genus source.now.places }
     requires len { length source.now.coefficients.now ≡ length (keys_of source.now.plan.now) }
-    ensures { IfOk result (λ terms. AddsTerms source.now.plan.now source.now.genus source.now.places source.now.coefficients.now (lists_up_to source.now.places (greatest_sum source.now.genus source.now.places)) [] terms.items) }
+    ensures { IfOk result (λ terms. AddsOf source.now (lists_of source.now) [] terms.items) }
 {
     let mut terms = Vec::new(alloc);
     let mut prefix = ArrayVec::new();

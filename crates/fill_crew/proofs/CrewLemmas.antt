@@ -14,6 +14,10 @@ use Rattle.cell_words.specs.declared.countdown.Countdown.{Countdown}
 use Rattle.cell_words.specs.declared.countdown.CountSeat.{CountSeat}
 use Rattle.cell_words.proofs.Names.{length-map, get_or_default, dite, ℕ_discrete, Planning, tensors_of, has, Outcome, Over, cells, outcome_at, Known, view_of, AreAll, IsAfter, receipts_of}
 use Rattle.fill_crew.specs.Crews.{IsIdle, IsBack, BeginsWith, HasWorked, AreSwept}
+use Rattle.cell_words.specs.Claims.{Claims}
+use Rattle.cell_words.specs.declared.claim.Claim.{Claim}
+use Rattle.cell_words.specs.declared.claim.Claim.TheVariants.{Mine, Needs, Taken, Done}
+use Rattle.cell_words.specs.declared.view.View.{View}
 
 -- ---- what is true of what the items of lists have
 
@@ -194,3 +198,10 @@ module _ (b : Countdown) (n : ℕ) (old new rest : List CountSeat) (own : CountS
       same : (ss : List CountSeat) → receipts_of (ss ++ mine ∷ []) ≡ receipts_of (ss ++ own ∷ [])
       same [] = ap (λ l. l ++ []) done
       same (s ∷ ss) = ap (λ l. s.done.items ++ l) (same ss)
+
+-- who doesn't claim a cell holds none
+pub holds_none : (p : Planning) (r : ℕ) (old new : View) (held : Option ℕ) (x : Claim) → Claims p r old new held x → (x ≡ Mine → ⊥) → held ≡ None
+holds_none p r old new held Mine c other = absurd (other refl)
+holds_none p r old new held (Needs n) c other = c.0
+holds_none p r old new held Taken c other = c.0
+holds_none p r old new held Done c other = c.0

@@ -4,11 +4,10 @@ use Rattle.frac128.proofs.Words.{and_parts, ints, gcd, ℚ, ◌/ℚ◌, ◌+ℚ�
 use Rattle.std.proofs.Math.IntN.{*ℤ_comm}
 use Rattle.airy_math.specs.Ints.{*ℤ-neg}
 use Rattle.airy_math.specs.Rational.{positive, coprime, cross, cross_from_same, lowest_parts, is_lowest}
-use Rattle.airy_math.specs.RationalLaws.{add_fractions, mul_fractions}
+use Rattle.airy_math.specs.RationalLaws.{add_fractions, mul_fractions, positive_times}
 use Rattle.airy_math.proofs.ObtainedLaw.{sum_exact, product_exact}
 use Rattle.frac128.specs.Laws.{IsNumber, IsLowest, SchoolRules, IsWithin, SumWithin, RangeRules}
 use Rattle.frac128.proofs.SignLemmas.{nat_lt-true, below-nat_lt}
-use Rattle.airy_math.proofs.ConstraintLemmas.{both_positive}
 
 number_of : (n : ℤ) (d : ℕ) → 0 < d → IsNumber (n /ℚ d) n d
 number_of n d p = record { some = p; cross = cross n d p }
@@ -34,11 +33,11 @@ negative x n d h = to_number (neg_ℤ x.num /ℚ x.den) (neg_ℤ n) d h.some
     (same_fraction (neg_ℤ x.num) (neg_ℤ n) x.den d (positive x) h.some (neg-times x.num (pos d) ∙ ap neg_ℤ h.cross ∙ sym (neg-times n (pos x.den))))
 
 sum : (x y s : ℚ) (n m : ℤ) (d e : ℕ) → IsNumber x n d → IsNumber y m e → obtained_sum x y ≡ Some s → IsNumber s (n *ℤ pos e +ℤ m *ℤ pos d) (d * e)
-sum x y s n m d e h k o = to_number s (n *ℤ pos e +ℤ m *ℤ pos d) (d * e) (both_positive d e h.some k.some)
+sum x y s n m d e h k o = to_number s (n *ℤ pos e +ℤ m *ℤ pos d) (d * e) (positive_times d e h.some k.some)
     (sum_exact x y s o ∙ ap₂ ◌+ℚ◌ (from_number x n d h) (from_number y m e k) ∙ add_fractions n m d e h.some k.some)
 
 product : (x y p : ℚ) (n m : ℤ) (d e : ℕ) → IsNumber x n d → IsNumber y m e → obtained_product x y ≡ Some p → IsNumber p (n *ℤ m) (d * e)
-product x y p n m d e h k o = to_number p (n *ℤ m) (d * e) (both_positive d e h.some k.some)
+product x y p n m d e h k o = to_number p (n *ℤ m) (d * e) (positive_times d e h.some k.some)
     (product_exact x y p o ∙ ap₂ ◌*ℚ◌ (from_number x n d h) (from_number y m e k) ∙ mul_fractions n m d e h.some k.some)
 
 neg-neg : (z : ℤ) → neg_ℤ (neg_ℤ z) ≡ z
@@ -126,7 +125,7 @@ product_range x y n m p d e q hx hy some none cross =
     let z = x *ℚ y in
     let same : z ≡ p /ℚ q =
     ap₂ ◌*ℚ◌ (from_number x n d hx) (from_number y m e hy) ∙ mul_fractions n m d e hx.some hy.some
-    ∙ same_fraction (n *ℤ m) p (d * e) q (both_positive d e hx.some hy.some) some cross in
+    ∙ same_fraction (n *ℤ m) p (d * e) q (positive_times d e hx.some hy.some) some cross in
     let k = numbers_are z p q (record { is = to_number z p q some same; coprime = none }) in (
       λ h.
           let t = and_parts (fits z.num) (fits (pos z.den)) (some_true (fits z.num && fits (pos z.den)) z h) in

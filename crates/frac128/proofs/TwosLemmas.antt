@@ -5,8 +5,9 @@ use Rattle.std.specs.Int.{◌∣◌}
 use Rattle.std.specs.Int.Count.{count_trailing_zeros, trailing_of_zero, under}
 use Rattle.std.proofs.lemmas.Nat.Gcd.{IsGcd-from_zero, IsGcd-from_sub, IsGcd-swap, dvd_trans, le_of_dvd}
 use Rattle.std.proofs.Math.Nat.{pow-suc, eq-one_of_dvd-one, dvd-mul_right, mul_comm, mul_assoc, one-mul, mod-eq_of_lt, div-div-eq-div-mul, min-eq_left, min-eq_right}
-use Rattle.airy_math.specs.Gcd.{gcd, gcd_steps}
-use Rattle.frac128.proofs.GcdLemmas.{Coprime, Coprime-from_gcd, Coprime-part_left, Coprime-product, gcd-is, gcd-from_IsGcd, gcd-from_Coprime, gcd-scaled, divides_other}
+use Rattle.airy_math.specs.Gcd.{gcd, gcd_steps, IsGcd-gcd}
+use Rattle.frac128.proofs.GcdLemmas.{Coprime, Coprime-from_gcd, Coprime-part_left, Coprime-product, gcd-from_IsGcd, gcd-from_Coprime, gcd-scaled, divides_other}
+use Rattle.airy_math.specs.Rational.{gcd_one, one_gcd}
 
 -- ---- the zeros at the end of a number
 
@@ -45,23 +46,17 @@ Coprime-power x (suc j) e = rw (pow-suc 2 j) (Coprime-product x (2 ^ j) 2 (Copri
 -- a factor that has nothing in common with the other number
 gcd-drop : (x y c : ℕ) → Coprime x c → gcd x (y * c) ≡ gcd x y
 gcd-drop x y c h =
-    let g = gcd-is x y in
+    let g = IsGcd-gcd x y in
     gcd-from_IsGcd x (y * c) (gcd x y) (g.0, dvd_trans (gcd x y) g.1 (dvd-mul_right y c), λ d p q. g.2 d p (divides_other d c y (Coprime-part_left x c d p h) (subst (λ n. d ∣ n) (mul_comm y c) q)))
 
 pub gcd_comm : (a b : ℕ) → gcd a b ≡ gcd b a
-gcd_comm a b = gcd-from_IsGcd a b (gcd b a) (IsGcd-swap b a (gcd b a) (gcd-is b a))
+gcd_comm a b = gcd-from_IsGcd a b (gcd b a) (IsGcd-swap b a (gcd b a) (IsGcd-gcd b a))
 
 pub gcd-zero_left : (b : ℕ) → gcd 0 b ≡ b
 gcd-zero_left b = gcd-from_IsGcd 0 b b (IsGcd-swap b 0 b (IsGcd-from_zero b 0 refl))
 
 pub gcd-zero_right : (a : ℕ) → gcd a 0 ≡ a
 gcd-zero_right a = gcd-from_IsGcd a 0 a (IsGcd-from_zero a 0 refl)
-
-pub gcd-one_right : (a : ℕ) → gcd a 1 ≡ 1
-gcd-one_right a = gcd-from_Coprime a 1 (λ d p q. eq-one_of_dvd-one q)
-
-pub gcd-one_left : (b : ℕ) → gcd 1 b ≡ 1
-gcd-one_left b = gcd_comm 1 b ∙ gcd-one_right b
 
 -- the lesser power of two is common to both
 gcd-twos_le : (x y i r : ℕ) → x % 2 ≡ 1 → gcd (x * 2 ^ i) (y * 2 ^ (i + r)) ≡ gcd x y * 2 ^ i
@@ -88,12 +83,12 @@ gcd-twos x y i j e f = by (cases_lt i j)
 pub odd-step_up : (x y q t : ℕ) → x % 2 ≡ 1 → q * 2 ^ t ≡ y → x ≤ q → gcd x (q - x) ≡ gcd x y
 odd-step_up x y q t e h le =
     let g = gcd x (q - x) in
-    sym (ap (gcd x) (sym h) ∙ gcd-drop x q (2 ^ t) (Coprime-power x t e) ∙ gcd-from_IsGcd x q g (IsGcd-swap q x g (IsGcd-from_sub q x g le (IsGcd-swap x (q - x) g (gcd-is x (q - x))))))
+    sym (ap (gcd x) (sym h) ∙ gcd-drop x q (2 ^ t) (Coprime-power x t e) ∙ gcd-from_IsGcd x q g (IsGcd-swap q x g (IsGcd-from_sub q x g le (IsGcd-swap x (q - x) g (IsGcd-gcd x (q - x))))))
 
 pub odd-step_down : (x y q t : ℕ) → x % 2 ≡ 1 → q * 2 ^ t ≡ y → q < x → gcd q (x - q) ≡ gcd x y
 odd-step_down x y q t e h less =
     let g = gcd q (x - q) in
-    sym (ap (gcd x) (sym h) ∙ gcd-drop x q (2 ^ t) (Coprime-power x t e) ∙ gcd-from_IsGcd x q g (IsGcd-from_sub x q g (let le : q ≤ x = omega arith in le) (IsGcd-swap q (x - q) g (gcd-is q (x - q)))))
+    sym (ap (gcd x) (sym h) ∙ gcd-drop x q (2 ^ t) (Coprime-power x t e) ∙ gcd-from_IsGcd x q g (IsGcd-from_sub x q g (let le : q ≤ x = omega arith in le) (IsGcd-swap q (x - q) g (IsGcd-gcd q (x - q)))))
 
 -- what n shares with 2^m
 pub gcd-power : (w n m : ℕ) → n < 2 ^ w → m ≤ w → 2 ^ min (count_trailing_zeros w n) m ≡ gcd n (2 ^ m)
@@ -102,10 +97,10 @@ gcd-power w (suc n) m h le =
     let t = count_trailing_zeros w (suc n) in
     let s = zeros-split w (suc n) (omega arith) h in
     sym (ap (λ x. gcd x (2 ^ m)) (sym s.0) ∙ ap (λ x. gcd (suc n / 2 ^ t * 2 ^ t) x) (sym (one-mul (2 ^ m))) ∙ gcd-twos (suc n / 2 ^ t) 1 t m s.1 refl
-    ∙ ap (λ x. x * 2 ^ min t m) (gcd-one_right (suc n / 2 ^ t)) ∙ one-mul (2 ^ min t m))
+    ∙ ap (λ x. x * 2 ^ min t m) (gcd_one (suc n / 2 ^ t)) ∙ one-mul (2 ^ min t m))
 
 pub gcd-le : (a b : ℕ) → 0 < a → gcd a b ≤ a
-gcd-le a b p = le_of_dvd p (gcd-is a b).0
+gcd-le a b p = le_of_dvd p (IsGcd-gcd a b).0
 
 -- two numbers by their odd parts
 pub gcd-odd_parts : (a b x i y j : ℕ) → x * 2 ^ i ≡ a → y * 2 ^ j ≡ b → x % 2 ≡ 1 → y % 2 ≡ 1 → gcd x y * 2 ^ min i j ≡ gcd a b
@@ -117,8 +112,8 @@ shifted_word g n a b e p h = let le = gcd-le a b p in let less : gcd a b < 2 ^ 6
 
 -- the same where one of the odd parts is 1
 pub gcd-one : (x y : ℕ) → (x ≡ 1) ⊎ (y ≡ 1) → 1 ≡ gcd x y
-gcd-one x y (inl e) = rw e (sym (gcd-one_left y))
-gcd-one x y (inr e) = rw e (sym (gcd-one_right x))
+gcd-one x y (inl e) = rw e (sym (one_gcd y))
+gcd-one x y (inr e) = rw e (sym (gcd_one x))
 
 -- where one of two numbers is a power of two, they share a power of two and no more
 pub common_twos : (a b x i y j t : ℕ) → x * 2 ^ i ≡ a → y * 2 ^ j ≡ b → x % 2 ≡ 1 → y % 2 ≡ 1 → (x ≡ 1) ⊎ (y ≡ 1) → t ≡ min i j → 2 ^ t ≡ gcd a b

@@ -5,7 +5,7 @@ use Rattle.std.proofs.lemmas.List.{length-replicate, length-drop, map-append, re
 use Rattle.std.proofs.Math.Nat.{mul-div_cancel, mul_right_comm}
 use Rattle.std.proofs.Math.Seq.{take-length, drop-length, drop-append_seam}
 use lib.ListN.{get_or}
-use Rattle.airy_math.proofs.SplitLemmas.{binomial-over, binomial-zero}
+use Rattle.airy_math.proofs.SplitLemmas.{binomial-over, binomial-zero, binomial-all}
 use Rattle.airy_index.proofs.BinomialLemmas.{binomial-step}
 use Rattle.airy_math.specs.Splits.{runs}
 use Rattle.airy_math.specs.Sums.{below}
@@ -133,14 +133,9 @@ module _ {c : ℤ} {r : ℕ × ℕ} {j : ℕ} {x : Chosen} (k : AreCopies c r j 
   unfolding more_of no_split
   copies-small law few byte = omega (arith, ap unsigned_abs k.numbers.part.excess, excess-small c (replicate j r.0) law (bytes-replicate j r.0 byte), length-replicate j r.0, k.within, few)
 
-choose_all : (n : ℕ) → binomial n n ≡ 1
-unfolding binomial
-choose_all zero = refl
-choose_all (suc n) = omega (arith, choose_all n, binomial-over n (suc n) (omega arith))
-
 -- as many ways to take k of n things as to leave k
 binomial-mirror : (n k : ℕ) → k ≤ n → binomial n k ≡ binomial n (n - k)
-binomial-mirror n zero l = let e : n - 0 ≡ n = omega arith in binomial-zero n ∙ sym (choose_all n) ∙ ap (binomial n) (sym e)
+binomial-mirror n zero l = let e : n - 0 ≡ n = omega arith in binomial-zero n ∙ sym (binomial-all n) ∙ ap (binomial n) (sym e)
 binomial-mirror n (suc k) l =
     let j = n - suc k in
     let above : n - k ≡ suc j = omega (arith, l) in
@@ -165,7 +160,7 @@ module _ {c : ℤ} {r : ℕ × ℕ} {j : ℕ} {x : Chosen} (k : AreCopies c r j 
       omega (arith, n.part.places, length-append (s.part ++ replicate r.1 v) u.part, length-append s.part (replicate r.1 v), ap (λ l. length l) all, length-append (replicate t v) (replicate j v), length-append (s.part ++ replicate t v) u.part, length-append s.part (replicate t v)) in
       let excess : excess c (whole r.1) -ℤ x.part.excess ≡ excess c (whole t) =
       omega (arith, ints, n.part.excess, excess-append c (s.part ++ replicate r.1 v) u.part, excess-append c s.part (replicate r.1 v), ap (excess c) all, excess-append c (replicate t v) (replicate j v), excess-append c (s.part ++ replicate t v) u.part, excess-append c s.part (replicate t v)) in
-      let top : s.ways * binomial r.1 r.1 ≡ s.ways = ap (λ b. s.ways * b) (choose_all r.1) ∙ (let o : s.ways * 1 ≡ s.ways = omega arith in o) in
+      let top : s.ways * binomial r.1 r.1 ≡ s.ways = ap (λ b. s.ways * b) (binomial-all r.1) ∙ (let o : s.ways * 1 ≡ s.ways = omega arith in o) in
       let copies : x.ways ≡ binomial r.1 t = (let o : x.ways ≡ binomial r.1 j = omega (arith, n.ways) in o) ∙ binomial-mirror r.1 j k.within in
       let ways : ((s.ways * binomial r.1 r.1) * u.ways) * x.ways ≡ (s.ways * binomial r.1 t) * u.ways =
       ap₂ (λ a b. (a * u.ways) * b) top copies ∙ mul_right_comm s.ways u.ways (binomial r.1 t) in
@@ -217,7 +212,7 @@ full-one : (rs : List (ℕ × ℕ)) (r : ℕ × ℕ) → full (rs ++ r ∷ []) �
 unfolding full more_of listed
 full-one rs r =
     let rest : [] ≡ [] ++ replicate (r.1 - r.1) r.0 = let e : r.1 - r.1 ≡ 0 = omega arith in ap (λ n. replicate n r.0) (sym e) in
-    let ways : 1 ≡ 1 * binomial r.1 r.1 = omega (arith, choose_all r.1) in
+    let ways : 1 ≡ 1 * binomial r.1 r.1 = omega (arith, binomial-all r.1) in
     λ i. record { part = listed-push rs r i; rest = rest i; ways = ways i }
   where
     listed-push : (rs : List (ℕ × ℕ)) (r : ℕ × ℕ) → listed (rs ++ r ∷ []) ≡ listed rs ++ replicate r.1 r.0

@@ -5,6 +5,7 @@ use Rattle.std.proofs.lemmas.Int.{unsigned_abs-mul}
 use Rattle.airy_math.specs.Shapes.{per_g}
 use Rattle.airy_math.specs.declared.Law.{Law}
 use Rattle.airy_math.specs.Cuts.{room, law_at}
+use Rattle.airy_math.proofs.IntLemmas.{unsigned_abs-sum}
 
 pub only_at : (z : ℤ) (n : ℕ) → z ≡ pos n → (s : ℕ) → eq_z (pos s) z ≡ is_in (record { low = n; high = n }) s
 unfolding eq_z is_in
@@ -40,9 +41,6 @@ all_in s h = grind arith
 
 -- ---- the letter's room
 
-abs_sum : (a b : ℤ) → unsigned_abs (a +ℤ b) ≤ unsigned_abs a + unsigned_abs b
-abs_sum a b = omega (arith, ints)
-
 abs_less_one : (g : ℕ) → unsigned_abs (pos g -ℤ pos 1) ≤ suc g
 abs_less_one g = omega (arith, ints)
 
@@ -60,7 +58,7 @@ unfolding IsSmallLaw law_number
 law_small l g n h =
     let by_genus = product_small l.per_g (pos g -ℤ pos 1) (suc g) h.0 h.1 (abs_less_one g) in
     let by_places = product_small l.per_n (pos n) n h.2 h.3 (omega arith) in
-    omega (arith, by_genus, by_places, abs_sum (l.per_g *ℤ (pos g -ℤ pos 1)) (l.per_n *ℤ pos n))
+    omega (arith, by_genus, by_places, unsigned_abs-sum (l.per_g *ℤ (pos g -ℤ pos 1)) (l.per_n *ℤ pos n))
 
 -- no room where the shape isn't AtMost
 pub no_room : (s : Shape) (key : Key) → ((l : Law) → s ≡ AtMost l → ⊥) → letter_of s key ≡ 0

@@ -1,5 +1,5 @@
 -- What a walk carries of a list of indices in place of the list: its length, its excess and its code.
-use Prim.Native.Nat.{ℕ, ◌+◌, ◌≤◌, ◌<◌, ◌^◌}
+use Prim.Native.Nat.{ℕ, ◌+◌, ◌-◌, ◌≤◌, ◌<◌, ◌^◌}
 use mathlib.Core.Path.{◌≡◌}
 use mathlib.Core.Bool.{Bool, true}
 use mathlib.Core.List.{List, [], ◌∷◌}
@@ -46,6 +46,14 @@ pub record IsMeasured (c : ℤ) (xs : List ℕ) (m : Measure) : Type 0 where
   pub places : m.places ≡ length xs
   pub excess : m.excess ≡ excess c xs
   pub code : m.code ≡ code_of_list xs
+
+-- the measure of two lists together
+abbrev pub both_measured : Measure → Measure → Measure
+both_measured m n = record { places = m.places + n.places; excess = m.excess +ℤ n.excess; code = m.code + n.code }
+
+-- the measure of a list without a part of it
+abbrev pub rest_measured : Measure → Measure → Measure
+rest_measured m n = record { places = m.places - n.places; excess = m.excess -ℤ n.excess; code = m.code - n.code }
 
 -- A measure that is small enough to be added to another.
 pub record IsLight (m : Measure) : Type 0 where

@@ -9,7 +9,7 @@ use Rattle.item_chains.specs.Chains.{from_first}
 use lib.ListN.{length, drop}
 use lib.IntN.{ℤ, pos, ◌+ℤ◌, ◌-ℤ◌}
 use Rattle.airy_math.specs.Cuts.{natural}
-use Rattle.airy_math.specs.Splits.{Split}
+use Rattle.airy_math.specs.Splits.{Split, splits}
 use Rattle.airy_math.specs.Sums.{count_from, each}
 use Rattle.airy_index.specs.Choices.{all_splits}
 use Rattle.key_index.specs.Codes.{code_of_list}
@@ -24,7 +24,12 @@ chain e = natural (e +ℤ pos (2 ^ 29)) % 64
 
 -- the measure of a split's part and its number of ways
 unfoldable pub numbers_of : ℤ → Split → Chosen
-numbers_of c s = record { part = record { places = length s.part; excess = excess c s.part; code = code_of_list s.part }; ways = s.ways; gain = 0; loss = 0 }
+numbers_of c s = record {
+  part = record { places = length s.part; excess = excess c s.part; code = code_of_list s.part };
+  ways = s.ways;
+  gain = 0;
+  loss = 0;
+}
 
 -- what is listed of a part with such numbers
 unfoldable pub listed_of : Chosen → Listed
@@ -38,6 +43,10 @@ chosen_of l = record { part = record { places = l.places; excess = l.excess; cod
 unfoldable pub all_listed : ℤ → List Split → List (ℕ × Listed)
 all_listed c ss = map (λ s. (chain (excess c s.part), listed_of (numbers_of c s))) ss
 
+-- These are the splits of a list, as they are listed.
+abbrev pub AreListed : ℤ → List ℕ → List (ℕ × Listed) → Type 0
+AreListed c I xs = xs ≡ all_listed c (splits I)
+
 -- the numbers of the splits that are passed over on a walk along a chain; without a chain, of none
 unfoldable pub is_passed : Option ℕ → ℕ → Bool
 is_passed None m = false
@@ -50,7 +59,8 @@ first_with (Some n) xs = from_first n xs
 
 -- The answer is the split from which on there are so many, if it is met, with how many there are from the next one that is met on.
 abbrev pub MeetsAt : {T : Type 0} → Option ℕ → List (ℕ × T) → ℕ → T × ℕ → Type 0
-MeetsAt {T} k xs left r = (before after : List (ℕ × T)) (x : ℕ × T) → before ++ x ∷ after ≡ xs → left ≡ suc (length after) → is_passed k x.0 ≡ false → r ≡ (x.1, first_with k after)
+MeetsAt {T} k xs left r = (before after : List (ℕ × T)) (x : ℕ × T) → before ++ x ∷ after ≡ xs → left ≡ suc (length after) →
+    is_passed k x.0 ≡ false → r ≡ (x.1, first_with k after)
 
 -- what is listed of a part without another one, whose ways come on top
 unfoldable pub part_without : Listed → Listed → Listed
@@ -75,7 +85,8 @@ going_on s (r ∷ rs) t = each (count_from t (suc r.1 - t)) λ u. map (behind (m
 
 -- Where the splits that take all copies of the run behind a split were listed, now all that go on from it with the run are.
 abbrev pub ListsRun : ℤ → ℕ × ℕ → List (ℕ × Listed) → List (ℕ × Listed) → Type 0
-ListsRun c r old new = (s : Split) (rs : List (ℕ × ℕ)) → old ≡ all_listed c (going_on (more_of s r r.1) rs 0) → new ≡ all_listed c (going_on s (r ∷ rs) 0)
+ListsRun c r old new = (s : Split) (rs : List (ℕ × ℕ)) →
+    old ≡ all_listed c (going_on (more_of s r r.1) rs 0) → new ≡ all_listed c (going_on s (r ∷ rs) 0)
 
 -- Where the split that takes all of the runs was listed, now all their splits are.
 abbrev pub ListsRuns : ℤ → List (ℕ × ℕ) → List (ℕ × Listed) → List (ℕ × Listed) → Type 0

@@ -1,6 +1,6 @@
 ghost use Rattle.std.specs.Prelude.{◌≡◌, ◌≤◌, ◌+◌, ◌-◌, ◌*◌, ◌/◌, ◌^◌, ◌+ℤ◌, ◌-ℤ◌, pos};
 ghost use Rattle.airy_math.specs.Cuts.{natural};
-ghost use Rattle.index_lists.specs.Measures.{IsLight};
+ghost use Rattle.index_lists.specs.Measures.{IsLight, both_measured};
 
 use crate::measure::{Measure, above_zero};
 
@@ -38,7 +38,12 @@ impl Chosen {
         requires item { IsLight item.now }
         requires gain { count * natural item.now.excess ≤ self.now.gain }
         requires loss { count * natural (pos 0 -ℤ item.now.excess) ≤ self.now.loss }
-        ensures { result ≡ record { part = self.now.part; ways = self.now.ways; gain = self.now.gain - count * natural item.now.excess; loss = self.now.loss - count * natural (pos 0 -ℤ item.now.excess) } }
+        ensures { result ≡ record {
+          part = self.now.part;
+          ways = self.now.ways;
+          gain = self.now.gain - count * natural item.now.excess;
+          loss = self.now.loss - count * natural (pos 0 -ℤ item.now.excess);
+        } }
     {
         let count = u32::from(count);
         Chosen {
@@ -56,7 +61,10 @@ impl Chosen {
         requires taken { taken ≤ count }
         requires short { count ≤ 25 }
         requires ways { self.now.ways ≤ 2 ^ 25 }
-        ensures { result ≡ record self.now { part = record { places = self.now.part.places + item.now.places; excess = self.now.part.excess +ℤ item.now.excess; code = self.now.part.code + item.now.code }; ways = self.now.ways * (count - taken) / (taken + 1) } }
+        ensures { result ≡ record self.now {
+          part = both_measured self.now.part item.now;
+          ways = self.now.ways * (count - taken) / (taken + 1);
+        } }
     {
         let ways = self.ways * u64::from(count - taken);
         Chosen {

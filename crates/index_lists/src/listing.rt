@@ -84,7 +84,8 @@ fn add_lists(
     ensures prefix { prefix.new ≡ prefix.old }
     ensures listed { OnOk result (keys.new.items ≡ keys.old.items ++ found listing.now prefix.old.items places least sum) }
     ensures few { OnOk result (length keys.new.items ≤ 200000) }
-    ensures full { IsErrOf result Stop.Full → 200000 < length keys.old.items + length (found listing.now prefix.old.items places least sum) }
+    ensures full { IsErrOf result Stop.Full →
+        200000 < length keys.old.items + length (found listing.now prefix.old.items places least sum) }
 {
     if places == 0 {
         if !listing.window.has(sum) {

@@ -3,7 +3,8 @@ ghost use Rattle.std.specs.Int.RustNames.{unsigned_abs};
 ghost use Rattle.airy_math.specs.Cuts.{natural};
 ghost use Rattle.airy_math.specs.Shapes.{per_n as shape_per_n};
 ghost use Rattle.sparse_tensor.specs.Grades.{IsSmallLaw};
-ghost use Rattle.index_lists.specs.Measures.{IsMeasured, IsLight, law_excess as excess_of_law, covers_excess as covered};
+ghost use Rattle.index_lists.specs.Measures.{IsMeasured, IsLight, both_measured, rest_measured};
+ghost use Rattle.index_lists.specs.Measures.{law_excess as excess_of_law, covers_excess as covered};
 
 use crate::window::times;
 use airy_index::Shape;
@@ -57,7 +58,7 @@ impl Measure {
     pub fn plus(self, other: Measure) -> Measure
         requires this { IsLight self }
         requires other { IsLight other }
-        ensures { result ≡ record { places = self.places + other.places; excess = self.excess +ℤ other.excess; code = self.code + other.code } }
+        ensures { result ≡ both_measured self other }
     {
         Measure {
             places: self.places + other.places,
@@ -73,7 +74,7 @@ impl Measure {
         requires part { IsLight part }
         requires places { part.places ≤ self.places }
         requires code { part.code ≤ self.code }
-        ensures { result ≡ record { places = self.places - part.places; excess = self.excess -ℤ part.excess; code = self.code - part.code } }
+        ensures { result ≡ rest_measured self part }
     {
         Measure {
             places: self.places - part.places,

@@ -7,7 +7,8 @@ ghost use Rattle.airy_math.specs.Splits.{splits};
 ghost use Rattle.sparse_tensor.specs.Grades.{IsSmallLaw};
 ghost use Rattle.index_lists.specs.Rests.{IsRest};
 ghost use Rattle.airy_index.specs.Choices.{whole_length};
-ghost use Rattle.index_lists.specs.SplitLists.{chain, listed_of, chosen_of, part_without, all_without, last_of, all_listed, first_with, ListsRun, ListsRuns, MeetsAt};
+ghost use Rattle.index_lists.specs.SplitLists.{chain, listed_of, chosen_of, part_without, all_without};
+ghost use Rattle.index_lists.specs.SplitLists.{last_of, all_listed, first_with, ListsRun, ListsRuns, MeetsAt};
 
 use crate::chosen::Chosen;
 use crate::measure::{Measure, above_zero, per_n};

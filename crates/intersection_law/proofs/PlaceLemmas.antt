@@ -10,7 +10,7 @@ use lib.IntN.{pos, ◌*ℤ◌}
 use lib.ListN.{length}
 use Rattle.std.proofs.lemmas.Bool.{eqb-true}
 use Rattle.airy_math.specs.Rational.{ℚ, ◌+ℚ◌, ◌*ℚ◌, ◌/ℚ◌, whole, same_fraction}
-use Rattle.airy_math.specs.RationalLaws.{0ℚ, 0ℚ_idl, 1ℚ_idl, 0ℚ-*ℚ, *ℚ_distrib_r, mul_fractions}
+use Rattle.airy_math.specs.RationalLaws.{0ℚ, 0ℚ_idl, 1ℚ_idl, 0ℚ-*ℚ, *ℚ_distrib_r, mul_fractions, one_pos, positive_times}
 use Rattle.airy_math.specs.Sums.{sum_over, when, below, factorial}
 use Rattle.airy_math.specs.Keys.{times, more, total, exponents}
 use Rattle.airy_math.specs.Series.{raise}
@@ -18,7 +18,7 @@ use Rattle.airy_math.specs.Solutions.{factorials}
 use Rattle.airy_math.proofs.SumLemmas.{sum-cong, sum-map, sum-zero, sum-add, whole-add}
 use Rattle.airy_math.proofs.KeyLemmas.{AllBelow}
 use Rattle.airy_math.proofs.MoveLemmas.{exponents-cons, exponents-none}
-use Rattle.airy_math.proofs.ConstraintLemmas.{raise_comm, whole-zero, both_positive}
+use Rattle.airy_math.proofs.ConstraintLemmas.{raise_comm, whole-zero}
 use Rattle.airy_math.proofs.PivotLaw.{total-raise, total-zeros}
 use Rattle.airy_math.proofs.StartLaw.{sum-one, whole-one}
 use Rattle.airy_math.proofs.GradedLaw.{index_sum, index_sum-raise, index_sum-zeros}
@@ -28,15 +28,12 @@ use Rattle.intersection_law.specs.Equations.{AreUpTo, lowered}
 
 -- ---- whole numbers and quotients
 
-one_pos : 0 < 1
-one_pos = omega arith
-
 -- n/d is a times n/(a d)
 pub quotient-times : (a n d : ℕ) → 0 < a → 0 < d → pos n /ℚ d ≡ whole a *ℚ (pos n /ℚ (a * d))
 unfolding whole
 quotient-times a n d p q =
-    let some = both_positive a d p q in
-    same_fraction (pos n) (pos a *ℤ pos n) d (1 * (a * d)) q (both_positive 1 (a * d) one_pos some) (regroup a n d) ∙ sym (mul_fractions (pos a) (pos n) 1 (a * d) one_pos some)
+    let some = positive_times a d p q in
+    same_fraction (pos n) (pos a *ℤ pos n) d (1 * (a * d)) q (positive_times 1 (a * d) one_pos some) (regroup a n d) ∙ sym (mul_fractions (pos a) (pos n) 1 (a * d) one_pos some)
   where
     regroup : (a n d : ℕ) → pos n *ℤ pos (1 * (a * d)) ≡ (pos a *ℤ pos n) *ℤ pos d
     regroup a n d = ap pos (omega arith)
@@ -97,12 +94,12 @@ sum-whole w n none more x (d ∷ ds) = ap (λ t. whole (w d) *ℚ x +ℚ t) (sum
 pub odd_factorial_pos : (d : ℕ) → 0 < odd_factorial d
 unfolding odd_factorial
 odd_factorial_pos zero = one_pos
-odd_factorial_pos (suc d) = both_positive (odd_factorial d) (2 * d + 3) (odd_factorial_pos d) (omega arith)
+odd_factorial_pos (suc d) = positive_times (odd_factorial d) (2 * d + 3) (odd_factorial_pos d) (omega arith)
 
 pub odd_factorials_pos : (ds : List ℕ) → 0 < odd_factorials ds
 unfolding odd_factorials
 odd_factorials_pos [] = one_pos
-odd_factorials_pos (d ∷ ds) = both_positive (odd_factorial d) (odd_factorials ds) (odd_factorial_pos d) (odd_factorials_pos ds)
+odd_factorials_pos (d ∷ ds) = positive_times (odd_factorial d) (odd_factorials ds) (odd_factorial_pos d) (odd_factorials_pos ds)
 
 -- what holds where rs is ds without one x, wherever that stands
 pub record IsWithout (x : ℕ) (ds rs : List ℕ) : Type 0 where

@@ -83,7 +83,8 @@ impl<T: Copy + Default, const N: usize> Chains<T, N> {
     pub fn at(&self, left: usize) -> (T, u16)
         requires some { 0 < left }
         requires within { left ≤ length self.now }
-        ensures { (before after : List (ℕ × T)) (x : ℕ × T) → before ++ x ∷ after ≡ self.now → left ≡ suc (length after) → result ≡ (x.1, from_first x.0 after) }
+        ensures { (before after : List (ℕ × T)) (x : ℕ × T) → before ++ x ∷ after ≡ self.now →
+            left ≡ suc (length after) → result ≡ (x.1, from_first x.0 after) }
     {
         let linked = self.linked[left - 1];
         (linked.item, linked.next)

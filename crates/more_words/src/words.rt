@@ -1,5 +1,6 @@
 ghost use Rattle.std.specs.Prelude.{◌≡◌, map, string_bytes, IfOk};
-ghost use Rattle.more_words.specs.MoreWords.{read_behind, read_brackets, read_curve, read_curve_relations, read_json, read_quick, read_verify, reading_of};
+ghost use Rattle.more_words.specs.MoreWords.{read_behind, read_brackets, read_curve};
+ghost use Rattle.more_words.specs.MoreWords.{read_curve_relations, read_json, read_quick, read_verify, reading_of};
 ghost use Rattle.more_words.specs.FirstRefused.{RefusesFirst};
 ghost use Rattle.more_words.specs.Asked.{numbered_of, reading, reading_by, IsFit, IsLeft};
 

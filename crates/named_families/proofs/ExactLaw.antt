@@ -28,7 +28,8 @@ use Rattle.airy_curve.specs.Filling.{exponent_of, Fits, HasRoom}
 use Rattle.airy_curve.specs.Steps.{entry_refusal, place_refusal, plane_refusal, row_refusal, unless_obtained}
 use Rattle.airy_curve.proofs.FillingLaw.{at, entry-at, exponent-here, exponent-some, named, place-at}
 use Rattle.airy_curve.proofs.StepLemmas.{first_none}
-use Rattle.airy_curve.proofs.ValueLemmas.{different, when-zero}
+use Rattle.airy_curve.proofs.ValueLemmas.{different}
+use Rattle.airy_math.proofs.PivotLaw.{when-of_zero}
 
 -- ---- filling
 
@@ -113,11 +114,11 @@ fits_d s shape v e = inr (ap (λ x. keeps_d x s) e ∙ eq_z-same (pos s) (pos s)
 -- the entry of D stands at 0 or 1
 pub d_first : (s : ℕ) (x y : ℚ) → s ≡ 0 → x ≡ pos 1 /ℚ 8 → y ≡ 0ℚ → (i : ℕ) → when (eqb i 0) x +ℚ when (eqb i 1) y ≡ exact_d s i
 unfolding exact_d
-d_first s x y at e none i = ap₂ (λ a b. when (eqb i 0) a +ℚ b) e (when-zero (eqb i 1) y none) ∙ 0ℚ_idr _ ∙ ap (λ n. when (eqb i n) (pos 1 /ℚ 8)) (sym at)
+d_first s x y at e none i = ap₂ (λ a b. when (eqb i 0) a +ℚ b) e (when-of_zero (eqb i 1) y none) ∙ 0ℚ_idr _ ∙ ap (λ n. when (eqb i n) (pos 1 /ℚ 8)) (sym at)
 
 pub d_second : (s : ℕ) (x y : ℚ) → s ≡ 1 → x ≡ 0ℚ → y ≡ pos 1 /ℚ 8 → (i : ℕ) → when (eqb i 0) x +ℚ when (eqb i 1) y ≡ exact_d s i
 unfolding exact_d
-d_second s x y at none e i = ap₂ (λ a b. a +ℚ when (eqb i 1) b) (when-zero (eqb i 0) x none) e ∙ 0ℚ_idl _ ∙ ap (λ n. when (eqb i n) (pos 1 /ℚ 8)) (sym at)
+d_second s x y at none e i = ap₂ (λ a b. a +ℚ when (eqb i 1) b) (when-of_zero (eqb i 0) x none) e ∙ 0ℚ_idl _ ∙ ap (λ n. when (eqb i n) (pos 1 /ℚ 8)) (sym at)
 
 pub filled : (s : ℕ) (x y : ℚ) (t₁ t₂ t₃ : Entries) → s ≤ 1 → curves.IsFilled (single (1 - s)) (1 - s) t₁ t₂ → t₃ ≡ record t₂ { d = t₃.d } → curves.FillsD x y t₃ → ((i : ℕ) → when (eqb i 0) x +ℚ when (eqb i 1) y ≡ exact_d s i) → IsFilled s t₁ t₃
 unfolding looked_up curves.FillsD curves.entry_b curves.entry_c exact_b exact_c

@@ -13,9 +13,6 @@ use Rattle.airy_math.proofs.BelowDimLaw.{sum-below_cong}
 
 -- ---- whole numbers and cancelling
 
-one_pos : 0 < 1
-one_pos = omega arith
-
 pub gather : (m n : ℕ) (x : ℚ) → whole m *ℚ x +ℚ whole n *ℚ x ≡ whole (m + n) *ℚ x
 gather m n x = sym (*ℚ_distrib_r x (whole m) (whole n)) ∙ ap (λ t. t *ℚ x) (sym (whole-add m n))
 

@@ -1,7 +1,8 @@
 -- What is written of a text that is refused, and of a source that fails.
 use Rattle.std.specs.Prelude.{ℕ, List, [], ◌++◌, codes, decimal}
 use Rattle.tensor_text.specs.declared.refusals.LineKind.{LineKind}
-use Rattle.tensor_text.specs.declared.refusals.LineKind.TheVariants.{Header, Dim, Shape, Word, Count, Index, Number, Grade, Twice, NoEnd, After}
+use Rattle.tensor_text.specs.declared.refusals.LineKind.TheVariants.{Header, Dim, Shape, Word, Count}
+use Rattle.tensor_text.specs.declared.refusals.LineKind.TheVariants.{Index, Number, Grade, Twice, NoEnd, After}
 use Rattle.tensor_text.specs.declared.refusals.TextErr.{TextErr}
 use Rattle.tensor_text.specs.declared.refusals.TextErr.TheVariants as texts
 use Rattle.run_reports.specs.Report.{Report, refusal, out_of_memory}

@@ -11,22 +11,14 @@ use lib.IntN.{+ℤ_idl}
 use borrow.Author.Tests.{lt-ltb}
 use Rattle.airy_math.specs.Gcd.{gcd, IsGcd-gcd, dvd_of_coprime, coprime_left}
 use Rattle.airy_math.specs.Ints.{ring_z, *ℤ_assoc, *ℤ_distrib_r}
-use Rattle.airy_math.specs.Rational.{ℚ, ◌/ℚ◌, ◌+ℚ◌, positive, coprime, cross, same_fraction, parts_lem}
-use Rattle.airy_math.specs.RationalLaws.{0ℚ, add_fractions, mul_fractions}
+use Rattle.airy_math.specs.Rational.{ℚ, ◌/ℚ◌, ◌+ℚ◌, positive, coprime, cross, same_fraction, parts_lem, z_cancel}
+use Rattle.airy_math.specs.RationalLaws.{0ℚ, add_fractions, mul_fractions, positive_times}
 use Rattle.airy_math.specs.Obtained.{fits, obtained_sum, obtained_product, obtained_from, both_obtained}
 use Rattle.running_sum.specs.Certified.{total, sizes, CertifiedLaw}
-use Rattle.airy_math.proofs.ConstraintLemmas.{both_positive}
 
 fits-true : (z : ℤ) → unsigned_abs z < 2 ^ 127 → fits z ≡ true
 unfolding fits
 fits-true z h = lt-ltb _ _ h
-
-cancel : (a b : ℤ) (d : ℕ) → 0 < d → a *ℤ pos d ≡ b *ℤ pos d → a ≡ b
-cancel a b d p e =
-    let l = product_is a (pos d) in
-    let r = product_is b (pos d) in
-    let es = same_out _ _ e in
-    same_in a b (ap₂ ◌+◌ (eq_of_mul-eq-mul_right d p (up a) (up b) (omega arith)) (sym (eq_of_mul-eq-mul_right d p (down a) (down b) (omega arith))))
 
 -- n/D is the part a/b of it in lowest terms, both its numbers q times as great
 record IsTimes (x : ℚ) (n : ℤ) (D q : ℕ) : Type 0 where
@@ -35,7 +27,7 @@ record IsTimes (x : ℚ) (n : ℤ) (D q : ℕ) : Type 0 where
   some : 0 < q
 
 num_times : (x : ℚ) (n : ℤ) (D q : ℕ) → x.num *ℤ pos D ≡ n *ℤ pos x.den → D ≡ x.den * q → n ≡ x.num *ℤ pos q
-num_times x n D q c e = cancel n (x.num *ℤ pos q) x.den (positive x) (sym c ∙ ap (λ t. x.num *ℤ pos t) e ∙ at x.num (pos x.den) (pos q))
+num_times x n D q c e = z_cancel n (x.num *ℤ pos q) x.den (positive x) (sym c ∙ ap (λ t. x.num *ℤ pos t) e ∙ at x.num (pos x.den) (pos q))
   where
     at : (a b q : ℤ) → a *ℤ (b *ℤ q) ≡ (a *ℤ q) *ℤ b
     at a b q = simp ring_z
@@ -64,7 +56,7 @@ part-small z q m p h = let l = at (unsigned_abs z) q p in let e = unsigned_abs-m
     at n q p = grind arith
 
 pub raised : (n : ℤ) (d k : ℕ) → 0 < d → 0 < k → n /ℚ d ≡ (n *ℤ pos k) /ℚ (d * k)
-raised n d k p q = same_fraction _ _ _ _ p (both_positive d k p q) (at n (pos d) (pos k))
+raised n d k p q = same_fraction _ _ _ _ p (positive_times d k p q) (at n (pos d) (pos k))
   where
     at : (n d k : ℤ) → n *ℤ (d *ℤ k) ≡ (n *ℤ k) *ℤ d
     at n d k = simp ring_z
@@ -76,7 +68,7 @@ unfolding obtained_product
 product n m d e p q hn hd =
     let s = mul_fractions n m d e p q in
     let z = (n *ℤ m) /ℚ (d * e) in
-    let t = times_of (n *ℤ m) (d * e) (both_positive d e p q) in
+    let t = times_of (n *ℤ m) (d * e) (positive_times d e p q) in
     let a = fits-true z.num (part-small z.num _ _ t.some (subst (λ u. unsigned_abs u < 2 ^ 127) t.num hn)) in
     let b = fits-true (pos z.den) (part-small (pos z.den) _ _ t.some (subst (λ u. u < 2 ^ 127) t.den hd)) in
     rw (s, a, b) refl
@@ -140,7 +132,7 @@ sum n m D p hd hn hm hs =
     (fits-true r (part-small r e _ some (subst (λ u. unsigned_abs u < 2 ^ 127) em hm)))
     (fits-true (l +ℤ r) (part-small (l +ℤ r) e _ some (subst (λ u. unsigned_abs u < 2 ^ 127) es hs)))
     (fits-true (pos (x.den / g * (y.den / k))) (omega arith))
-    ∙ ap Some (add_fractions n m D D p p ∙ same_fraction _ _ _ _ (both_positive D D p p) p (at n m (pos D)))
+    ∙ ap Some (add_fractions n m D D p p ∙ same_fraction _ _ _ _ (positive_times D D p p) p (at n m (pos D)))
   where
     at : (n m d : ℤ) → (n *ℤ d +ℤ m *ℤ d) *ℤ d ≡ (n +ℤ m) *ℤ (d *ℤ d)
     at n m d = simp ring_z

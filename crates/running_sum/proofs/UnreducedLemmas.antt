@@ -13,7 +13,8 @@ use Rattle.airy_math.specs.Obtained.{obtained_sum, obtained_product, both_obtain
 use Rattle.running_sum.specs.Kept.{fraction_of}
 use Rattle.running_sum.specs.Sizes.{IsRaisedSum}
 use Rattle.running_sum.proofs.CertifiedLaw.{raised, product, sum}
-use Rattle.airy_math.proofs.ConstraintLemmas.{both_positive}
+use Rattle.airy_math.specs.RationalLaws.{positive_times}
+use Rattle.frac128.proofs.SignLemmas.{word_size}
 
 pub some_of : (n : ℤ) (o k : ℕ) → 0 < o → fraction_of n o k ≡ Some (n /ℚ (o * 2 ^ k))
 unfolding fraction_of
@@ -67,9 +68,9 @@ product_of n m (suc o) zero k l h d = ap (λ t. fraction_of (n *ℤ m) t (k + l)
     times-zero o = omega arith
 product_of n m (suc o) (suc p) k l h d =
     let e = dens (suc o) (suc p) k l in
-    some_of (n *ℤ m) (suc o * suc p) (k + l) (both_positive (suc o) (suc p) (omega arith) (omega arith))
+    some_of (n *ℤ m) (suc o * suc p) (k + l) (positive_times (suc o) (suc p) (omega arith) (omega arith))
     ∙ sym (ap₂ (both_obtained obtained_product) (some_of n (suc o) k (omega arith)) (some_of m (suc p) l (omega arith)) ∙ both_some obtained_product _ _
-    ∙ product n m (suc o * 2 ^ k) (suc p * 2 ^ l) (both_positive (suc o) (2 ^ k) (omega arith) (pow_pos k)) (both_positive (suc p) (2 ^ l) (omega arith) (pow_pos l)) h (omega arith)
+    ∙ product n m (suc o * 2 ^ k) (suc p * 2 ^ l) (positive_times (suc o) (2 ^ k) (omega arith) (pow_pos k)) (positive_times (suc p) (2 ^ l) (omega arith) (pow_pos l)) h (omega arith)
     ∙ ap (λ t. Some ((n *ℤ m) /ℚ t)) e)
 
 -- ---- sums
@@ -80,7 +81,7 @@ over_more n zero k f w t p e h = absurd (omega arith)
 over_more n (suc o) k zero w t p e h = absurd (omega arith)
 over_more n (suc o) k (suc f) w t p e h =
     some_of n (suc o) k (omega arith)
-    ∙ ap Some (raised n (suc o * 2 ^ k) (suc f * 2 ^ (t - k)) (both_positive (suc o) (2 ^ k) (omega arith) (pow_pos k)) (both_positive (suc f) (2 ^ (t - k)) (omega arith) (pow_pos (t - k)))
+    ∙ ap Some (raised n (suc o * 2 ^ k) (suc f * 2 ^ (t - k)) (positive_times (suc o) (2 ^ k) (omega arith) (pow_pos k)) (positive_times (suc f) (2 ^ (t - k)) (omega arith) (pow_pos (t - k)))
     ∙ ap (λ d. (n *ℤ pos (suc f * 2 ^ (t - k))) /ℚ d) (dens (suc o) (suc f) k (t - k) ∙ ap₂ (λ a b. a * 2 ^ b) e (back k t h)))
   where
     back : (k t : ℕ) → k ≤ t → k + (t - k) ≡ t
@@ -94,7 +95,7 @@ sum_of n m x y s o p k l f g w t some eo ep hk hl d ex ey es hx hy hs =
     some_of s w t some ∙ ap (λ z. Some (z /ℚ (w * 2 ^ t))) es
     ∙ sym (ap₂ (both_obtained obtained_sum) (over_more n o k f w t some eo hk ∙ ap (λ z. Some (z /ℚ (w * 2 ^ t))) (sym ex)) (over_more m p l g w t some ep hl ∙ ap (λ z. Some (z /ℚ (w * 2 ^ t))) (sym ey))
     ∙ both_some obtained_sum _ _
-    ∙ sum x y (w * 2 ^ t) (both_positive w (2 ^ t) some (pow_pos t)) d hx hy (rw es at hs))
+    ∙ sum x y (w * 2 ^ t) (positive_times w (2 ^ t) some (pow_pos t)) d hx hy (rw es at hs))
 
 -- ---- numbers by their lengths
 
@@ -159,7 +160,7 @@ pub small_raised : (n t : ℕ) → t ≤ 62 → n / 2 ^ 64 / 2 ^ (62 - t) ≡ 0 
 small_raised n t h z =
     let d = 2 ^ 64 * 2 ^ (62 - t) in
     let e : n / d ≡ 0 = sym (div-div-eq-div-mul n (2 ^ 64) (2 ^ (62 - t))) ∙ z in
-    let some : 0 < d = both_positive (2 ^ 64) (2 ^ (62 - t)) (omega arith) (pow_pos (62 - t)) in
+    let some : 0 < d = positive_times (2 ^ 64) (2 ^ (62 - t)) (omega arith) (pow_pos (62 - t)) in
     let l = mul-lt-mul_of_pos_right (subst (λ q. n < q * d + d) e (lt-div-mul-add some)) (pow_pos t) in
     let s : 2 ^ (62 - t) * 2 ^ t ≡ 2 ^ 62 = sym (pow-add 2 (62 - t) t) ∙ ap (λ k. 2 ^ k) (let b : 62 - t + t ≡ 62 = omega arith in b) in
     omega arith
@@ -172,14 +173,10 @@ one_power k h = let l = pow_below k 127 h in omega arith
 
 -- ---- words
 
-pub word_fits : (z : ℤ) → FitsSigned w64 z → unsigned_abs z ≤ 2 ^ 63
-word_fits (pos n) f = let below : n < 2 ^ 63 = f.sfits in omega arith
-word_fits (negsuc n) f = let below : n < 2 ^ 63 = f.sfits in omega arith
-
 pub words_fit : (a b : ℤ) → FitsSigned w64 a → FitsSigned w64 b → unsigned_abs (a *ℤ b) < 2 ^ 127
 words_fit a b f g =
     let e = unsigned_abs-mul a b in
-    let l = mul-le (unsigned_abs a) (unsigned_abs b) (2 ^ 63) (2 ^ 63) (word_fits a f) (word_fits b g) in
+    let l = mul-le (unsigned_abs a) (unsigned_abs b) (2 ^ 63) (2 ^ 63) (word_size a f) (word_size b g) in
     omega arith
 
 pub word_product : (n m : ℤ) (o p k l : ℕ) → 0 < o → 0 < p → unsigned_abs (n *ℤ m) < 2 ^ 127 → (o * p) * 2 ^ (k + l) < 2 ^ 127

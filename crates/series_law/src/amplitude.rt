@@ -14,7 +14,8 @@ use frac128::Frac;
 pub fn amplitude_of(plan: &Plan, table: &Table, key: &Key) -> Option<Frac>
     requires { length table.now ≡ length (keys_of plan.now) }
     ensures amplitude { result ≡ shown_amplitude plan.now table.now key.now }
-    ensures unique { HoldsOutcomes plan.now table.now → are_below plan.now.tensors.dim key.now.idx ≡ true → IfSome result (IsAmplitude plan.now key.now) }
+    ensures unique { HoldsOutcomes plan.now table.now → are_below plan.now.tensors.dim key.now.idx ≡ true →
+        IfSome result (IsAmplitude plan.now key.now) }
 {
     plan.tensors().soundness_fact();
     key.validity_fact();

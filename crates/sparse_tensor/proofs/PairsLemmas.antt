@@ -9,6 +9,7 @@ use Rattle.sparse_tensor.specs.Entries.{Entry, same_place, value_at, is_taken, p
 use Rattle.sparse_tensor.specs.Rows.{Places, PutsIn, pair_before, same_pair, pair_value, has_pair, with_pair, pair_entries, joined, pairs_of}
 use Rattle.sparse_tensor.proofs.ItemLemmas.{picked-all}
 use Rattle.sparse_tensor.proofs.JoinLemmas.{fold-joined, put-joined, joined-empty, puts-whole}
+use Rattle.airy_math.proofs.KeyLemmas.{eqb-self}
 
 -- the entry of an item of the row n
 abbrev pair_entry : ℕ → (ℕ × ℕ × ℚ) → Entry
@@ -16,9 +17,6 @@ pair_entry n e = record { i = n; j = e.0; k = e.1; v = e.2 }
 
 rows-apart : (i n : ℕ) → (n ≡ i → ⊥) → eqb i n ≡ false
 rows-apart i n h = grind (arith, nat_tests)
-
-same-row : (i : ℕ) → eqb i i ≡ true
-same-row i = grind (arith, nat_tests)
 
 lower-before : (x y : Entry) → y.i < x.i → place_before x y ≡ false
 unfolding place_before
@@ -37,19 +35,19 @@ module _ (i : ℕ) (rows : List (List (ℕ × ℕ × ℚ))) (d : List (ℕ × �
   unfolding value_at pair_value same_place same_pair pair_entries
   pairs-value j k =
       fold-joined pair_entry i rows d l (same_place i j k) (λ e rest. e.v) 0ℚ (same_pair j k)
-      (λ n a apart. rw (rows-apart i n apart) refl) (λ a. rw (same-row i) refl)
+      (λ n a apart. rw (rows-apart i n apart) refl) (λ a. rw (eqb-self i) refl)
 
   pub pairs-taken : (j k : ℕ) → is_taken (joined pair_entries 0 rows) i j k ≡ has_pair (get_or rows i d) j k
   unfolding is_taken has_pair same_place same_pair pair_entries
   pairs-taken j k =
       fold-joined pair_entry i rows d l (same_place i j k) (λ e rest. true) false (same_pair j k)
-      (λ n a apart. rw (rows-apart i n apart) refl) (λ a. rw (same-row i) refl)
+      (λ n a apart. rw (rows-apart i n apart) refl) (λ a. rw (eqb-self i) refl)
 
   pub pairs-row : pairs_of i (joined pair_entries 0 rows) ≡ get_or rows i d
   unfolding pairs_of pair_entries
   pairs-row =
       fold-joined pair_entry i rows d l (λ e. eqb i e.i) (λ e rest. (e.j, e.k, e.v) ∷ rest) [] (λ e. true)
-      (λ n a apart. rows-apart i n apart) (λ a. same-row i)
+      (λ n a apart. rows-apart i n apart) (λ a. eqb-self i)
       ∙ picked-all (get_or rows i d)
 
   pairs-put : (j k : ℕ) (v : ℚ) → with_entry (record { i = i; j = j; k = k; v = v }) (joined pair_entries 0 rows) ≡ joined pair_entries 0 (set rows i (with_pair j k v (get_or rows i d)))

@@ -1,12 +1,12 @@
 -- Puts for callers: when a place is free, and what the tensors are after a put.
-use Rattle.std.proofs.Common.{◌≡◌, ℕ, ◌<◌, Bool, true, false, ◌&&◌, cond, eqb, refl, sym, subst, arith, min, max, Result, Ok, OnOk}
+use Rattle.std.proofs.Common.{◌≡◌, ℕ, ◌<◌, ◌≤◌, Bool, true, false, ◌&&◌, cond, eqb, refl, sym, subst, arith, min, max, Result, Ok, OnOk}
 use Rattle.std.proofs.lemmas.Bool.Decides.{nat_tests}
 use Rattle.airy_math.specs.Rational.{ℚ}
 use Rattle.airy_math.specs.RationalLaws.{0ℚ}
 use Rattle.airy_math.specs.Tensors as math
 use Rattle.airy_math.specs.Tensors.{is_zero}
 use Rattle.sparse_tensor.specs.declared.tensors.PutErr.{PutErr}
-use Rattle.sparse_tensor.specs.Entries.{Entries, looked_up, same_place}
+use Rattle.sparse_tensor.specs.Entries.{Entries, looked_up, same_place, with_value}
 use Rattle.sparse_tensor.specs.Grades.{AreEntries, keeps_a, keeps_b, keeps_c, keeps_d}
 use Rattle.sparse_tensor.specs.Puts.{Putting, Free, IsAllowed, putting, are_inside, putting_a, putting_b, putting_c, putting_d, with_a, with_b, with_c, with_d}
 use Rattle.sparse_tensor.proofs.EntryLemmas.{value_at-with_entry, value_of-with_value, free_from_zero, not_given_from_zero}
@@ -14,6 +14,19 @@ use Rattle.sparse_tensor.proofs.EntryLemmas.{value_at-with_entry, value_of-with_
 pub inside : (dim i j k : ℕ) → i < dim → j < dim → k < dim → are_inside dim i j k ≡ true
 unfolding are_inside
 inside dim i j k p q r = grind (arith, nat_tests)
+
+-- the least and the greatest of two numbers in order
+pub ordered_ends : (j k : ℕ) → j ≤ k → (min j k ≡ j) × (max j k ≡ k)
+ordered_ends j k h = (omega arith, omega arith)
+
+-- a put of D changes D alone
+pub with_d-is : (t : Entries) (i : ℕ) (v : ℚ) → with_d t i v ≡ record t { d = cond (is_zero v) t.d (with_value i v t.d) }
+unfolding with_d
+with_d-is t i v = by (is_zero v)
+  where
+    by : (z : Bool) → cond z t (record t { d = with_value i v t.d }) ≡ record t { d = cond z t.d (with_value i v t.d) }
+    by true = refl
+    by false = refl
 
 free-of : (inside zero graded taken : Bool) → inside ≡ true → zero ≡ false → graded ≡ true → taken ≡ false → putting inside zero graded taken ≡ Free
 unfolding putting

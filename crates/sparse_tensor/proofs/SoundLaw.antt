@@ -21,6 +21,9 @@ pub is_zero-0ℚ : is_zero 0ℚ ≡ true
 unfolding is_zero 0ℚ Rattle.airy_math.specs.Rational.ℚ_computes
 is_zero-0ℚ = refl
 
+pub is_zero-of : (v : ℚ) → v ≡ 0ℚ → is_zero v ≡ true
+is_zero-of v e = ap is_zero e ∙ is_zero-0ℚ
+
 pub is_zero-some : (v : ℚ) → (v ≡ 0ℚ → ⊥) → is_zero v ≡ false
 is_zero-some v h = by (is_zero v) refl
   where

@@ -104,7 +104,8 @@ entry_code = code_by ((ℕ × ℕ) × (ℕ × ℚ)) (coded× (coded× coded_ℕ 
 abbrev pub entries_code : Coded Entries
 entries_code = code_by ((ℕ × (Shape × Bool)) × ((List Entry × List Entry) × (List Entry × List (ℕ × ℚ))))
     (coded× (coded× coded_ℕ (coded× shape_code coded_bool))
-    (coded× (coded× (coded_list entry_code) (coded_list entry_code)) (coded× (coded_list entry_code) (coded_list (coded× coded_ℕ rational_code)))))
+    (coded× (coded× (coded_list entry_code) (coded_list entry_code))
+    (coded× (coded_list entry_code) (coded_list (coded× coded_ℕ rational_code)))))
     (λ t. ((t.dim, (t.shape, t.letter)), ((t.a, t.b), (t.c, t.d))))
     (λ p. record { dim = p.0.0; shape = p.0.1.0; letter = p.0.1.1; a = p.1.0.0; b = p.1.0.1; c = p.1.1.0; d = p.1.1.1 })
     (λ _. refl)

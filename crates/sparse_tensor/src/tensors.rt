@@ -3,7 +3,9 @@ ghost use Rattle.sparse_tensor.specs.Entries.{looked_up, no_entries, is_given};
 ghost use Rattle.sparse_tensor.specs.Grades.{IsSmallLaw, IsAtMost, AreSound, keeps_d};
 ghost use Rattle.sparse_tensor.specs.Rows.{PutsIn};
 ghost use Rattle.sparse_tensor.specs.Parts.{checked, answered};
-ghost use Rattle.sparse_tensor.specs.Puts.{are_inside, keeps_in, taken_in, with_in, putting_in, IsPut, IsAdmitted, putting_a, putting_b, putting_c, putting_d, Outside, Nothing, Ungraded, Taken, IsAllowed, with_a, with_b, with_c, with_d};
+ghost use Rattle.sparse_tensor.specs.Puts.{are_inside, keeps_in, taken_in, with_in, putting_in, IsPut};
+ghost use Rattle.sparse_tensor.specs.Puts.{IsAdmitted, putting_a, putting_b, putting_c, putting_d, Outside};
+ghost use Rattle.sparse_tensor.specs.Puts.{Nothing, Ungraded, Taken, IsAllowed, with_a, with_b, with_c, with_d};
 ghost use Rattle.airy_math.specs.Tensors.{is_zero, row_b, row_c};
 
 use crate::grades::{keeps_a, keeps_b, keeps_c, keeps_d};

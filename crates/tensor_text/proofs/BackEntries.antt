@@ -23,6 +23,7 @@ use Rattle.tensor_text.proofs.BackValues.{index_back, value_back}
 use Rattle.tensor_text.proofs.BackLines.{Ink, AreWords, joined, joined_line, decimal_word, fraction_word, place_line_words, place_is, index_is}
 use Rattle.airy_math.proofs.SumLemmas.{Each, Each-weaken}
 use Rattle.sparse_tensor.proofs.SoundLaw.{is_zero-some}
+use Rattle.sparse_tensor.proofs.PutFacts.{ordered_ends}
 
 -- ---- an entry behind all others
 
@@ -89,21 +90,18 @@ stored_new : (taken : Bool) (v : ℚ) (t : Entries) → (v ≡ 0ℚ → ⊥) →
 unfolding stored
 stored_new taken v t some e = rw (is_zero-some v some, e) refl
 
-ordered_min : (j k : ℕ) → j ≤ k → (min j k ≡ j) × (max j k ≡ k)
-ordered_min j k h = (omega arith, omega arith)
-
 taken_last : (letter : Part) (t : Entries) (done : List Entry) (e : Entry) → first_in letter e.j ≤ e.k → Below (number e) done → taken_in letter (with_list letter t done) e.i e.j e.k ≡ false
 unfolding taken_in with_list
-taken_last A t done e h b = let m = ordered_min e.j e.k h in rw (m.0, m.1) (free-last e done b)
+taken_last A t done e h b = let m = ordered_ends e.j e.k h in rw (m.0, m.1) (free-last e done b)
 taken_last B t done e h b = free-last e done b
-taken_last C t done e h b = let m = ordered_min e.j e.k h in rw (m.0, m.1) (free-last e done b)
+taken_last C t done e h b = let m = ordered_ends e.j e.k h in rw (m.0, m.1) (free-last e done b)
 
 with_last : (letter : Part) (t : Entries) (done : List Entry) (e : Entry) → first_in letter e.j ≤ e.k → (e.v ≡ 0ℚ → ⊥) → e.j < 72 → e.k < 72 → Below (number e) done
     → with_in letter (with_list letter t done) e.i e.j e.k e.v ≡ with_list letter t (done ++ e ∷ [])
 unfolding with_in with_list with_a with_b with_c
-with_last A t done e h some p q b = let m = ordered_min e.j e.k h in rw (is_zero-some e.v some, m.0, m.1, put-last e done p q b) refl
+with_last A t done e h some p q b = let m = ordered_ends e.j e.k h in rw (is_zero-some e.v some, m.0, m.1, put-last e done p q b) refl
 with_last B t done e h some p q b = rw (is_zero-some e.v some, put-last e done p q b) refl
-with_last C t done e h some p q b = let m = ordered_min e.j e.k h in rw (is_zero-some e.v some, m.0, m.1, put-last e done p q b) refl
+with_last C t done e h some p q b = let m = ordered_ends e.j e.k h in rw (is_zero-some e.v some, m.0, m.1, put-last e done p q b) refl
 
 said_last : (letter : Part) (t : Entries) (done : List Entry) (e : Entry) → IsReadable t.shape t.dim letter e → Below (number e) done
     → said (with_list letter t done) (place_line_words letter e) ≡ Stored (with_list letter t (done ++ e ∷ []))

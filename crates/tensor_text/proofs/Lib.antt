@@ -6,7 +6,6 @@ pub mod GrammarLemmas
 pub mod PutLemmas
 pub mod ReadLemmas
 pub mod WriteLemmas
-pub mod ZeroLemmas
 pub mod PieceLaw
 pub mod CanonicalLaw
 pub mod BackValues

@@ -11,8 +11,7 @@ use Rattle.tensor_text.specs.Canonical.{place_text, index_text}
 use Rattle.tensor_text.specs.Pieces.{each_from, value_in, place_piece, row_piece, plane_piece, places_piece, index_piece, indices_piece, entries_of}
 use Rattle.sparse_tensor.specs.declared.parts.Part.{Part}
 use Rattle.sparse_tensor.specs.declared.parts.Part.TheVariants.{A, B, C}
-use Rattle.tensor_text.proofs.ZeroLemmas.{zero_test}
-use Rattle.sparse_tensor.proofs.SoundLaw.{is_zero-some}
+use Rattle.sparse_tensor.proofs.SoundLaw.{is_zero-some, is_zero-of}
 
 -- ---- places as numbers
 
@@ -91,7 +90,7 @@ unfolding value_at
 value-here i j k e es p q r = rw (together i j k e p q r) refl
 
 piece-none : (text : Entry → List ℕ) (i j k : ℕ) (v : ℚ) → v ≡ 0ℚ → piece text i j k v ≡ []
-piece-none text i j k v e = rw (zero_test v e) refl
+piece-none text i j k v e = rw (is_zero-of v e) refl
 
 piece-some : (text : Entry → List ℕ) (i j k : ℕ) (v : ℚ) → (v ≡ 0ℚ → ⊥) → piece text i j k v ≡ text (record { i = i; j = j; k = k; v = v })
 piece-some text i j k v e = rw (is_zero-some v e) refl
@@ -126,7 +125,7 @@ step-sooner text i j k e es h ih =
 place-step : (text : Entry → List ℕ) (n i j k : ℕ) (es : List Entry) → j < 100 → k < 100 → Rise n es
     → piece text i j k (value_at es i j k) ++ flat_map text (from (suc (number_at i j k)) es) ≡ flat_map text (from (number_at i j k) es)
 unfolding Rise value_at from
-place-step text n i j k [] p q r = rw (zero_test 0ℚ refl) refl
+place-step text n i j k [] p q r = rw (is_zero-of 0ℚ refl) refl
 place-step text n i j k (e ∷ es) p q r = by (cases_order (number e) (number_at i j k)) (place-step text (suc (number e)) i j k es p q r.1)
   where
     by : (number e ≡ number_at i j k) ⊎ ((number e < number_at i j k) ⊎ (number_at i j k < number e)) → piece text i j k (value_at es i j k) ++ flat_map text (from (suc (number_at i j k)) es) ≡ flat_map text (from (number_at i j k) es)
@@ -350,7 +349,7 @@ abbrev piece_at : ℕ → ℚ → List ℕ
 piece_at i v = cond (is_zero v) [] (index_text (i, v))
 
 at-none : (i : ℕ) (v : ℚ) → v ≡ 0ℚ → piece_at i v ≡ []
-at-none i v e = rw (zero_test v e) refl
+at-none i v e = rw (is_zero-of v e) refl
 
 at-some : (i : ℕ) (v : ℚ) → (v ≡ 0ℚ → ⊥) → piece_at i v ≡ index_text (i, v)
 at-some i v e = rw (is_zero-some v e) refl
@@ -365,7 +364,7 @@ value-off-index i e es p = rw (ne_eqb i e.0 p) refl
 
 index-step : (dim n i : ℕ) (es : List (ℕ × ℚ)) → RiseByIndex dim n es → piece_at i (value_of es i) ++ flat_map index_text (from_index (suc i) es) ≡ flat_map index_text (from_index i es)
 unfolding RiseByIndex value_of from_index
-index-step dim n i [] r = rw (zero_test 0ℚ refl) refl
+index-step dim n i [] r = rw (is_zero-of 0ℚ refl) refl
 index-step dim n i (e ∷ es) r = by (cases_order e.0 i) (index-step dim (suc e.0) i es r.1)
   where
     by : (e.0 ≡ i) ⊎ ((e.0 < i) ⊎ (i < e.0)) → piece_at i (value_of es i) ++ flat_map index_text (from_index (suc i) es) ≡ flat_map index_text (from_index i es)

@@ -3,7 +3,7 @@ use Rattle.std.proofs.Common.{◌≡◌, ℕ, zero, suc, ◌+◌, ◌-◌, ◌<�
 use Rattle.std.specs.Io.KnownBytes.{Appends}
 use Rattle.std.proofs.lemmas.List.{take-append-le}
 use Rattle.airy_io.specs.Causes.{AppendsPrefix, Taking, Writes}
-use Rattle.airy_io.proofs.Prefixes.{AppendsPrefix-more}
+use Rattle.airy_io.proofs.Prefixes.{AppendsPrefix-more, AppendsPrefix-longer}
 use Rattle.airy_math.specs.declared.Law.{Law}
 use Rattle.airy_math.specs.declared.Shape.TheVariants.{Exact}
 use Rattle.tensor_text.specs.Canonical.{law_text, shape_text}
@@ -12,15 +12,12 @@ use Rattle.sparse_tensor.specs.declared.parts.Part.{Part}
 use Rattle.sparse_tensor.specs.declared.parts.Part.TheVariants.{A, B, C}
 use Rattle.std.proofs.KnownBytes.{Appends-trans, Appends-nil}
 
-cut_longer : (a b : Option (List ℕ)) (xs ys : List ℕ) → AppendsPrefix a b xs → AppendsPrefix a b (xs ++ ys)
-cut_longer a b xs ys p = (p.0, omega (arith, p.1, length-append xs ys), rw (take-append-le p.0 xs ys p.1) p.2)
-
 cut_behind : (a b c : Option (List ℕ)) (xs ys : List ℕ) → Appends a b xs → AppendsPrefix b c ys → AppendsPrefix a c (xs ++ ys)
 cut_behind a b c xs ys p q = subst (λ w. AppendsPrefix a c (xs ++ w)) (append-nil ys) (AppendsPrefix-more a b c xs ys [] p q)
 
 -- a part of a text is a part of a longer one
 pub cut_first : {T E : Type 0} (xs ys : List ℕ) (a b : Taking) (e : E) → Writes {T = T} xs a b (Err e) → Writes {T = T} (xs ++ ys) a b (Err e)
-cut_first xs ys a b e w = record { written = tt; prefix = cut_longer a.taken b.taken xs ys w.prefix; cause = w.cause }
+cut_first xs ys a b e w = record { written = tt; prefix = AppendsPrefix-longer a.taken b.taken xs ys w.prefix; cause = w.cause }
 
 -- what is written behind a text
 pub written_behind : {T E : Type 0} (xs ys : List ℕ) (a b c : Taking) (r : Result T E) → Appends a.taken b.taken xs → b.faults ≡ a.faults → Writes ys b c r → Writes (xs ++ ys) a c r

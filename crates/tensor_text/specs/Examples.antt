@@ -9,14 +9,25 @@ use Rattle.sparse_tensor.specs.Entries.{no_entries, is_taken, is_given, same_pla
 use Rattle.sparse_tensor.specs.Grades.{keeps, keeps_a, keeps_b, keeps_c, keeps_d}
 use Rattle.sparse_tensor.specs.Puts.{with_a, with_b, with_c, with_d}
 use Rattle.tensor_text.specs.Lines.{onto_first, parts, lines, nonempty, words}
-use Rattle.tensor_text.specs.Values.{number_on, number_of, below, not_zero, index_of, dim_of, short_of, signed_of, whole_of, before_stroke, from_stroke, denominator_of, quotient_of, size_of, read_value_of}
-use Rattle.tensor_text.specs.Grammar.{Read, Refused, is_note, is_skipped, counted, only_word, two_words, place_words, version_of, header_line, dim_line, law_by, law_of, all_shape, exact_shape, letter_given, at_most_by, at_most_shape, shape_words, shape_line, checked, stored, place_line, index_line, end_line, letter_of, said_by, said, after_end, then_read, entries_from, shape_read, shape_from, dim_read, dim_from, header_read, header_from, reading_of}
+use Rattle.tensor_text.specs.Values.{number_on, number_of, below, not_zero, index_of, dim_of, short_of, signed_of}
+use Rattle.tensor_text.specs.Values.{whole_of, before_stroke, from_stroke, denominator_of, quotient_of, size_of, read_value_of}
+use Rattle.tensor_text.specs.Grammar.{Read, Refused, is_note, is_skipped, counted, only_word, two_words, place_words}
+use Rattle.tensor_text.specs.Grammar.{version_of, header_line, dim_line, law_by, law_of, all_shape, exact_shape}
+use Rattle.tensor_text.specs.Grammar.{letter_given, at_most_by, at_most_shape, shape_words, shape_line, checked, stored}
+use Rattle.tensor_text.specs.Grammar.{place_line, index_line, end_line, letter_of, said_by, said, after_end, then_read}
+use Rattle.tensor_text.specs.Grammar.{entries_from, shape_read, shape_from, dim_read, dim_from, header_read, header_from, reading_of}
 use Rattle.sparse_tensor.specs.Puts.{keeps_in, taken_in, with_in}
-use Rattle.tensor_text.specs.declared.refusals.LineKind.TheVariants.{Header, Dim, Shape, Word, Count, Index, Number, Grade, Twice, NoEnd, After}
+use Rattle.tensor_text.specs.declared.refusals.LineKind.TheVariants.{Header, Dim, Shape, Word, Count}
+use Rattle.tensor_text.specs.declared.refusals.LineKind.TheVariants.{Index, Number, Grade, Twice, NoEnd, After}
 
 -- To name this on an `unfolding` line opens the grammar there, for `refl` at texts.
 unfoldable pub text_computes : ℕ → ℕ
-unfolding ℚ_computes 0ℚ 1ℚ is_zero eq_z per_g per_n keeps keeps_a keeps_b keeps_c keeps_d no_entries is_taken is_given same_place place_before with_entry with_value with_a with_b with_c with_d onto_first parts lines nonempty words number_on number_of below not_zero index_of dim_of short_of signed_of whole_of before_stroke from_stroke denominator_of quotient_of size_of read_value_of is_note is_skipped counted only_word two_words place_words version_of header_line dim_line law_by law_of all_shape exact_shape letter_given at_most_by at_most_shape shape_words shape_line checked stored keeps_in taken_in with_in place_line index_line end_line letter_of said_by said after_end then_read entries_from shape_read shape_from dim_read dim_from header_read header_from reading_of
+unfolding ℚ_computes 0ℚ 1ℚ is_zero eq_z per_g per_n keeps keeps_a keeps_b keeps_c keeps_d no_entries is_taken is_given same_place
+    place_before with_entry with_value with_a with_b with_c with_d onto_first parts lines nonempty words number_on number_of below
+    not_zero index_of dim_of short_of signed_of whole_of before_stroke from_stroke denominator_of quotient_of size_of read_value_of
+    is_note is_skipped counted only_word two_words place_words version_of header_line dim_line law_by law_of all_shape exact_shape
+    letter_given at_most_by at_most_shape shape_words shape_line checked stored keeps_in taken_in with_in place_line index_line end_line
+    letter_of said_by said after_end then_read entries_from shape_read shape_from dim_read dim_from header_read header_from reading_of
 text_computes n = n
 
 words_of_a_line : words (codes "  A 0\t1  ") ≡ codes "A" ∷ codes "0" ∷ codes "1" ∷ []

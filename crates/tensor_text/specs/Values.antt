@@ -1,5 +1,6 @@
 -- Numbers and values, as words.
-use Rattle.std.specs.Prelude.{ℕ, zero, suc, ◌+◌, ◌-◌, ◌*◌, ◌^◌, ℤ, pos, neg_ℤ, List, [], ◌∷◌, length, Bool, ◌&&◌, ◌==◌, nat_le, nat_lt, cond, Option, Some, None}
+use Rattle.std.specs.Prelude.{ℕ, zero, suc, ◌+◌, ◌-◌, ◌*◌, ◌^◌, ℤ, pos, neg_ℤ, List, [], ◌∷◌}
+use Rattle.std.specs.Prelude.{length, Bool, ◌&&◌, ◌==◌, nat_le, nat_lt, cond, Option, Some, None}
 use Rattle.std.specs.Option.{option_map}
 use Rattle.airy_math.specs.Rational.{ℚ, ◌/ℚ◌, neg_ℚ}
 

@@ -2,10 +2,7 @@ use Rattle.std.proofs.Common.{rules, arith, ap₂, ◌∙◌, ◌≡◌, ℤ, po
 use Rattle.std.proofs.lemmas.Int.{ints}
 use Rattle.airy_math.specs.Shapes.{law_number}
 use Rattle.airy_index.proofs.covering.number_of.Goals as goal
-
--- a product of the same numbers
-product_as : (z x y x' y' : ℤ) → z ≡ x *ℤ y → x ≡ x' → y ≡ y' → z ≡ x' *ℤ y'
-product_as z x y x' y' e p q = e ∙ ap₂ ◌*ℤ◌ p q
+use Rattle.airy_math.proofs.IntLemmas.{product_as}
 
 pub returns : goal.returns
 unfolding law_number

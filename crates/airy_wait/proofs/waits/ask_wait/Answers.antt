@@ -8,11 +8,9 @@ use Rattle.ask_seats.specs.Counts.{Knows}
 use Rattle.ask_seats.specs.Sessions.{told_at, is_rank}
 use Rattle.ask_seats.specs.Asks.{reply_at}
 use Rattle.airy_wait.specs.Waits.{told_reply}
-use Rattle.airy_wait.proofs.ToldLemmas.{told_at_place, told_outcome, knows_rank, knows_none, no_idle}
+use Rattle.airy_wait.proofs.ToldLemmas.{told_at_place, told_outcome, knows_rank, knows_none}
 use Rattle.airy_wait.proofs.waits.ask_wait.Goals as goal
-
-within : (p q : Planning) (key : Key) (r : ℕ) → q ≡ p → ListsPlanned (tensors_of q) q.bound → IsKey key.g key.idx → place_in q key ≡ place.At r → r < cells p
-within p q key r e lists k at = subst (λ s. r < cells s) e (rank_within q key r lists k at)
+use Rattle.ask_seats.proofs.PlaceLemmas.{no_idle, within}
 
 pub look_wait-requires-clause-rank : goal.look_wait-requires-clause-rank
 look_wait-requires-clause-rank g c = within _ c.plan-plan.result.now c.args.key.now c.in-At.rank c.plan-plan.ensures c.planned_fact.ensures c.validity_fact.ensures (sym c.rank_of.ensures ∙ c.in-At.is)

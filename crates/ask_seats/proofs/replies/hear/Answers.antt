@@ -3,7 +3,7 @@ use Rattle.ask_seats.specs.Replies.{NotYet}
 use Rattle.ask_seats.specs.Asks.{AnswersAt, Looks}
 use Rattle.ask_seats.specs.Talks.{tells, misses, waits}
 use Rattle.ask_seats.specs.declared.answer.Answer.{Answer}
-use Rattle.ask_seats.proofs.PlaceLemmas.{same_place}
+use Rattle.ask_seats.proofs.PlaceLemmas.{same_place, one_rank}
 use Rattle.ask_seats.proofs.replies.hear.Goals.{then-holds_back+in_default, else-holds_back}
 use Rattle.amp_plan.specs.declared.place.Place.TheVariants as place
 use Rattle.ask_seats.specs.Asks as asks
@@ -13,9 +13,6 @@ use Rattle.ask_seats.proofs.replies.hear.Goals as goal
 at_place : (p : Planning) (key : Key) (x : Place) → place_in p key ≡ x → told_of p key ≡ told_at (tensors_of p) p.tensors.letter p.bound key x
 unfolding told
 at_place p key x e = ap (told_at (tensors_of p) p.tensors.letter p.bound key) (sym (same_place p key) ∙ e)
-
-one_rank : (a b : ℕ) → place.At a ≡ place.At b → a ≡ b
-one_rank a b e = cc
 
 no_rank : (p : Planning) (key : Key) (x : Place) (r : ℕ) → place_in p key ≡ x → (place.At r ≡ x → ⊥) → place_in p key ≡ place.At r → ⊥
 no_rank p key x r e apart at = apart (sym at ∙ e)

@@ -16,9 +16,6 @@ same_dim n seed dim r e = e ∙ after_dim seed dim r
 plus_zero : (n : ℕ) → n ≡ n + 0
 plus_zero n = omega arith
 
-plus_one : (n r : ℕ) → n + r + 1 ≡ n + (r + 1)
-plus_one n r = omega arith
-
 pub returns-in_err-full-clause-over : goal.returns-in_err-full-clause-over
 unfolding NamesStep
 returns-in_err-full-clause-over c = let p = err_from_is_err_and c.from_residual.result c.from_residual.ensures.1 in rw (p.1, p.2) tt
@@ -58,7 +55,7 @@ loop-r-preserved c =
     let yes = was_obtained (is_obtained r (r + 1) c.whole-t.result (listed c.loop-r.full)) (r + 1) c.in_ok-change.ensures.over in (
       after_next seed c.args.dim r c.whole-t.result (listed c.loop-r.full) (listed c.change.new.self) room is_factor c.loop-r.invariant.0 c.in_ok-change.ensures.changed,
       refused_next seed c.args.dim r c.whole-t.result (listed c.loop-r.full) room is_factor c.loop-r.invariant.0 c.loop-r.invariant.1 ∙ ap (λ b. cond b None (Some (r + 1))) yes,
-      drawn.1 ∙ ap (state seed) (plus_one (4 * c.args.dim) r),
+      drawn.1 ∙ ap (state seed) (native.Mathlib.Nat.add_assoc (4 * c.args.dim) r 1),
     )
 
 pub returns-in_err-tensors-clause-over : goal.returns-in_err-tensors-clause-over

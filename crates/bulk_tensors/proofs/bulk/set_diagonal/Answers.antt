@@ -13,17 +13,14 @@ loop-i-init c =
 last : (i : ℕ) → 4 * i + 3 + 1 ≡ 4 * (i + 1)
 last i = omega arith
 
-more : (i m : ℕ) → i + m + 1 ≡ i + (m + 1)
-more i m = omega arith
-
 pub loop-i-preserved : goal.loop-i-preserved
 loop-i-preserved c =
     let seed = c.args.draws.now.state in
     let i = c.loop-i.i in
     let one = c.draw.ensures.drawn seed (4 * i) c.loop-i.invariant.1 in
     let two = c.draw-in-loop-i.ensures.drawn seed (4 * i + 1) one.1 in
-    let three = c.draw-in-loop-i-2.ensures.drawn seed (4 * i + 2) (two.1 ∙ ap (state seed) (more (4 * i) 1)) in
-    let four = c.draw-in-loop-i-3.ensures.drawn seed (4 * i + 3) (three.1 ∙ ap (state seed) (more (4 * i) 2)) in
+    let three = c.draw-in-loop-i-2.ensures.drawn seed (4 * i + 2) (two.1 ∙ ap (state seed) (native.Mathlib.Nat.add_assoc (4 * i) 1 1)) in
+    let four = c.draw-in-loop-i-3.ensures.drawn seed (4 * i + 3) (three.1 ∙ ap (state seed) (native.Mathlib.Nat.add_assoc (4 * i) 2 1)) in
     let a : c.whole-a.result ≡ whole (1 + c.draw.result % 3) = unfold whole in search rules in
     let b : c.whole-b.result ≡ whole (1 + c.draw-in-loop-i.result % 3) = unfold whole in search rules in
     let k : c.whole-c.result ≡ whole (c.draw-in-loop-i-2.result % 2) = unfold whole in search rules in

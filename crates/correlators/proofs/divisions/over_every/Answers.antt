@@ -1,10 +1,11 @@
 use Rattle.std.proofs.Common.{arith, ◌+◌, ◌*◌, map, Some, None, sym, ap, ◌∙◌}
 use Rattle.correlators.proofs.Words.{count_from, divided}
-use Rattle.correlators.proofs.DivisionLemmas.{one_lowest, left-more, left-none}
+use Rattle.correlators.proofs.DivisionLemmas.{left-more, left-none}
 use Rattle.correlators.proofs.divisions.over_every.Goals as goal
+use Rattle.airy_math.specs.Rational.{one_gcd}
 
 pub of_lowest-requires-clause-lowest : goal.of_lowest-requires-clause-lowest
-of_lowest-requires-clause-lowest c = one_lowest c.from.result
+of_lowest-requires-clause-lowest c = one_gcd c.from.result
 
 -- from the start there are all of them
 pub returns-in_err-quotient : goal.returns-in_err-quotient

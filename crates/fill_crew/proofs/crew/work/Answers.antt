@@ -5,16 +5,9 @@ use Rattle.cell_words.specs.declared.claim.Claim.TheVariants.{Mine, Needs, Taken
 use Rattle.cell_words.specs.declared.view.View.{View}
 use Rattle.cell_words.proofs.Names.{Planning, view_of}
 use Rattle.fill_crew.specs.Crews.{HasWorked}
-use Rattle.fill_crew.proofs.CrewLemmas.{worked_more}
+use Rattle.fill_crew.proofs.CrewLemmas.{worked_more, holds_none}
 use Rattle.fill_crew.proofs.crew.work.Goals.{in-Mine, in_default-claim}
 use Rattle.fill_crew.proofs.crew.work.Goals as goal
-
--- who doesn't claim a cell holds none
-holds_none : (p : Planning) (r : ℕ) (old new : View) (held : Option ℕ) (x : Claim) → Claims p r old new held x → (x ≡ Mine → ⊥) → held ≡ None
-holds_none p r old new held Mine c other = absurd (other refl)
-holds_none p r old new held (Needs n) c other = c.0
-holds_none p r old new held Taken c other = c.0
-holds_none p r old new held Done c other = c.0
 
 pub loop-preserved : goal.loop-preserved
 loop-preserved g c = elim c.match-claim.branch [

@@ -1,10 +1,7 @@
 use Rattle.std.proofs.Common.{rules, arith, ap₂, ◌∙◌, ◌≡◌, ℤ, pos, ◌*ℤ◌, ◌-ℤ◌, to_z, of_z, w16, w32}
 use Rattle.index_lists.proofs.Words.{ints, law_number}
 use Rattle.index_lists.proofs.window.number_of.Goals as goal
-
--- a product of the same numbers
-product_as : (z x y x' y' : ℤ) → z ≡ x *ℤ y → x ≡ x' → y ≡ y' → z ≡ x' *ℤ y'
-product_as z x y x' y' e p q = e ∙ ap₂ ◌*ℤ◌ p q
+use Rattle.airy_math.proofs.IntLemmas.{product_as}
 
 pub returns-clause-value : goal.returns-clause-value
 unfolding law_number

@@ -1,4 +1,4 @@
-use Rattle.std.proofs.Common.{◌≡◌, ◌+◌, suc, subst, arith, rules, ℕ}
+use Rattle.std.proofs.Common.{◌≡◌, ◌+◌, suc, subst, arith, rules, ℕ, sym}
 use Rattle.std.specs.Prelude.{IfOk, OnOk, IfErr, None}
 use Rattle.airy_math.specs.Families as exact
 use Rattle.airy_math.specs.Families.{top_wk, wp_cut}
@@ -7,6 +7,7 @@ use Rattle.airy_curve.proofs.ValueLemmas.{both_ok}
 use Rattle.named_families.specs.Families.{StandsForLettered, Names, top}
 use Rattle.named_families.specs.Steps.{wp_refusal}
 use Rattle.named_families.proofs.petersson.wp.Goals as goal
+use Rattle.std.proofs.Math.Numerals.{suc-eq-add-one}
 
 pub overflow_add-top : goal.overflow_add-top
 unfolding top top_wk
@@ -24,15 +25,11 @@ pub wp_cut-requires-clause-most : goal.wp_cut-requires-clause-most
 unfolding top top_wk
 wp_cut-requires-clause-most c = let e = c.top_of-top.ensures in omega arith
 
--- dim is one more than the top
-one_more : (n : ℕ) → n + 1 ≡ suc n
-one_more n = omega arith
-
 pub returns-clause-stands : goal.returns-clause-stands
 unfolding top
 returns-clause-stands c =
     subst (λ m. IfOk c.wp_cut.result (λ t. StandsForLettered t (exact.wp_cut (suc m) m))) c.top_of-top.ensures
-    (subst (λ d. IfOk c.wp_cut.result (λ t. StandsForLettered t (exact.wp_cut d c.top_of-top.result))) (one_more c.top_of-top.result) c.wp_cut.ensures.stands)
+    (subst (λ d. IfOk c.wp_cut.result (λ t. StandsForLettered t (exact.wp_cut d c.top_of-top.result))) (sym (suc-eq-add-one c.top_of-top.result)) c.wp_cut.ensures.stands)
 
 pub returns-clause-closes : goal.returns-clause-closes
 unfolding top looked_up wp_cut
@@ -43,10 +40,10 @@ pub returns-clause-obtained : goal.returns-clause-obtained
 unfolding top
 returns-clause-obtained c =
     subst (λ m. OnOk c.wp_cut.result (wp_refusal (suc m) m ≡ None)) c.top_of-top.ensures
-    (subst (λ d. OnOk c.wp_cut.result (wp_refusal d c.top_of-top.result ≡ None)) (one_more c.top_of-top.result) c.wp_cut.ensures.obtained)
+    (subst (λ d. OnOk c.wp_cut.result (wp_refusal d c.top_of-top.result ≡ None)) (sym (suc-eq-add-one c.top_of-top.result)) c.wp_cut.ensures.obtained)
 
 pub returns-clause-over : goal.returns-clause-over
 unfolding top
 returns-clause-over c =
     subst (λ m. IfErr c.wp_cut.result (λ e. Names e (wp_refusal (suc m) m))) c.top_of-top.ensures
-    (subst (λ d. IfErr c.wp_cut.result (λ e. Names e (wp_refusal d c.top_of-top.result))) (one_more c.top_of-top.result) c.wp_cut.ensures.over)
+    (subst (λ d. IfErr c.wp_cut.result (λ e. Names e (wp_refusal d c.top_of-top.result))) (sym (suc-eq-add-one c.top_of-top.result)) c.wp_cut.ensures.over)

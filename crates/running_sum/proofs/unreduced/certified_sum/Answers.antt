@@ -5,7 +5,7 @@ use Rattle.airy_math.specs.Obtained.{both_obtained, obtained_sum}
 use Rattle.running_sum.specs.Sizes.{IsProduct, IsSum, IsCommon}
 use Rattle.running_sum.proofs.UnreducedLemmas.{size-odds, size-dens, sum_of}
 use Rattle.running_sum.proofs.unreduced.certified_sum.Goals as goal
-use Rattle.airy_math.proofs.ConstraintLemmas.{both_positive}
+use Rattle.airy_math.specs.RationalLaws.{positive_times}
 
 pub overflow_mul-result : goal.overflow_mul-result
 overflow_mul-result c = let h = size-odds c.a.inside.odd c.in_ok-f.f c.bits.result c.bits-2.result 0 (search rules) (search rules) (omega arith) in record { fits = omega arith }
@@ -32,5 +32,5 @@ returns c =
     let n : to_z w128 (of_z w128 c.in_ok-short_sum.field-0) ≡ c.in_ok-short_sum.field-0 = search rules in
     let d = size-dens o f c.bits.result c.bits-2.result t (search rules) (search rules) (omega arith) in
     rw n (sum_of c.a.inside.num c.b.inside.num c.in_ok-x.x c.in_ok-y.y c.in_ok-short_sum.field-0 o c.b.inside.odd k l f c.in_ok-f.g (o * f) t
-    (both_positive o f (omega arith) w.some) refl (sym w.same) (omega arith) (omega arith) d x.value y.value s.value x.fits y.fits s.fits
+    (positive_times o f (omega arith) w.some) refl (sym w.same) (omega arith) (omega arith) d x.value y.value s.value x.fits y.fits s.fits
     ∙ ap₂ (both_obtained obtained_sum) c.a.view_is c.b.view_is)

@@ -5,14 +5,7 @@ use Rattle.ask_seats.proofs.Names.{◌≡◌, ℕ, ◌<◌, true, false, arith, 
 use Rattle.ask_seats.specs.Asks.{AnswersAt, Looks, finds, misses}
 use Rattle.amp_plan.specs.declared.place.Place.TheVariants as place
 use Rattle.ask_seats.proofs.asker.Asker.ask.Goals as goal
-
--- a key at a rank is at one
-no_idle : (x : Place) (r : ℕ) → x ≡ place.At r → is_rank x ≡ false → ⊥
-unfolding is_rank
-no_idle x r e f = let clash : true ≡ false = sym (ap is_rank e) ∙ f in cc
-
-within : (p q : Planning) (key : Key) (r : ℕ) → q ≡ p → ListsPlanned (tensors_of q) q.bound → IsKey key.g key.idx → place_in q key ≡ place.At r → r < cells p
-within p q key r e lists k at = subst (λ s. r < cells s) e (rank_within q key r lists k at)
+use Rattle.ask_seats.proofs.PlaceLemmas.{no_idle, within}
 
 pub look-requires-clause-rank : goal.look-requires-clause-rank
 look-requires-clause-rank g c = within _ c.plan-plan.result.now c.args.key.now c.in-At.rank c.plan-plan.ensures c.planned_fact.ensures c.validity_fact.ensures (sym c.rank_of.ensures ∙ c.in-At.is)

@@ -11,7 +11,7 @@ use Rattle.running_sum.specs.Kept.{fraction_of}
 use Rattle.running_sum.proofs.NumberLemmas.{made, not_least}
 use Rattle.running_sum.proofs.UnreducedLemmas.{none_of, some_of}
 use Rattle.running_sum.proofs.unreduced.Unreduced.value.Goals as goal
-use Rattle.airy_math.proofs.ConstraintLemmas.{both_positive}
+use Rattle.airy_math.specs.RationalLaws.{positive_times}
 
 pub returns-then-self-eq0 : goal.returns-then-self-eq0
 returns-then-self-eq0 c = sym (none_of c.self.inside.num c.self.inside.twos) ∙ ap (λ o. fraction_of c.self.inside.num o c.self.inside.twos) (sym c.if-self-eq0.true) ∙ c.self.view_is
@@ -30,7 +30,7 @@ returns c =
     let t = c.self.inside.twos in
     let e : o * 2 ^ t % 2 ^ 128 ≡ o * 2 ^ t = mod-eq_of_lt (let h = c.self.invariant.den_fits in omega arith) in
     let v : IfOk c.new.result (λ f. f ≡ n /ℚ (o * 2 ^ t)) = search (rules, e, to_z_pos w128 (o * 2 ^ t) c.self.invariant.den_fits) in
-    let p = both_positive o (2 ^ t) (omega arith) (pow_pos t) in
+    let p = positive_times o (2 ^ t) (omega arith) (pow_pos t) in
     let d = to_z_pos w128 (o * 2 ^ t) c.self.invariant.den_fits in
     let z : (IsErrOf c.new.result ZeroDen → pos (o * 2 ^ t) ≡ pos 0) = search (rules, e, d) in
     let w : (IsErrOf c.new.result Over → (n ≡ negsuc (2 ^ 127 - 1)) ⊎ (pos (o * 2 ^ t) ≡ negsuc (2 ^ 127 - 1))) = search (rules, e, d) in
